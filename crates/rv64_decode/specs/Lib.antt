@@ -1,0 +1,7 @@
+pub mod Area
+pub mod Ask
+pub mod Registers
+pub mod Fields
+pub mod Table
+pub mod Form
+pub mod Row

@@ -1,0 +1,299 @@
+ghost use Rattle.std.specs.Prelude.{◌≡◌, ◌↔◌, ◌+◌, ◌-◌, ◌*◌, ◌/◌, ◌%◌, ◌<◌, ◌≤◌, ◌^◌, ℕ, Some};
+ghost use Rattle.rv64_decode.specs.Fields.{signed_by, opcode, rd_of, funct3, rs1_of, rs2_of, funct7, imm_i, imm_s, imm_b, imm_u, imm_j};
+ghost use Rattle.rv64_decode.specs.Table.{Means, decoded, alu_by, alu_w_by, imm_by, imm_w_by, imm_for, load_by, store_by, branch_by};
+ghost use Rattle.rv64_decode.specs.declared.instr.Instr.{Instr};
+
+use crate::instr::{AluOp, BranchOp, ImmOp, Instr, LoadOp, StoreOp, UpperOp};
+use crate::registers::Reg;
+
+fn signed(half: u32, value: u32) -> i32
+    requires most { half ≤ 2 ^ 20 }
+    requires fits { value < 2 * half }
+    ensures { result ≡ signed_by half value }
+{
+    if value < half {
+        value as i32
+    } else {
+        value as i32 - half as i32 - half as i32
+    }
+}
+
+fn i_immediate(word: u32) -> i32
+    ensures { result ≡ imm_i word }
+{
+    signed(0x800, word >> 20)
+}
+
+fn s_immediate(word: u32) -> i32
+    ensures { result ≡ imm_s word }
+{
+    signed(0x800, (word >> 25) * 32 + (word >> 7) % 32)
+}
+
+fn b_immediate(word: u32) -> i32
+    ensures { result ≡ imm_b word }
+{
+    let high = (word >> 31) * 4096 + (word >> 7) % 2 * 2048;
+    signed(0x1000, high + (word >> 25) % 64 * 32 + (word >> 8) % 16 * 2)
+}
+
+fn u_immediate(word: u32) -> i32
+    ensures { result ≡ imm_u word }
+{
+    ((word >> 12) * 4096).cast_signed()
+}
+
+fn j_immediate(word: u32) -> i32
+    ensures { result ≡ imm_j word }
+{
+    let high = (word >> 31) * 0x10_0000 + (word >> 12) % 256 * 4096;
+    signed(
+        0x10_0000,
+        high + (word >> 20) % 2 * 2048 + (word >> 21) % 1024 * 2,
+    )
+}
+
+fn rd(word: u32) -> Reg
+    ensures { result ≡ rd_of word }
+{
+    Reg::new(((word >> 7) % 32) as u8)
+}
+
+fn rs1(word: u32) -> Reg
+    ensures { result ≡ rs1_of word }
+{
+    Reg::new(((word >> 15) % 32) as u8)
+}
+
+fn rs2(word: u32) -> Reg
+    ensures { result ≡ rs2_of word }
+{
+    Reg::new(((word >> 20) % 32) as u8)
+}
+
+fn alu_op(three: u32, high: u32) -> Option<AluOp>
+    ensures { result ≡ alu_by three high }
+{
+    match (three, high) {
+        (0, 0) => Some(AluOp::Add),
+        (1, 0) => Some(AluOp::Sll),
+        (2, 0) => Some(AluOp::Slt),
+        (3, 0) => Some(AluOp::Sltu),
+        (4, 0) => Some(AluOp::Xor),
+        (5, 0) => Some(AluOp::Srl),
+        (6, 0) => Some(AluOp::Or),
+        (7, 0) => Some(AluOp::And),
+        (0, 32) => Some(AluOp::Sub),
+        (5, 32) => Some(AluOp::Sra),
+        (0, 1) => Some(AluOp::Mul),
+        (1, 1) => Some(AluOp::Mulh),
+        (2, 1) => Some(AluOp::Mulhsu),
+        (3, 1) => Some(AluOp::Mulhu),
+        (4, 1) => Some(AluOp::Div),
+        (5, 1) => Some(AluOp::Divu),
+        (6, 1) => Some(AluOp::Rem),
+        (7, 1) => Some(AluOp::Remu),
+        _ => None,
+    }
+}
+
+fn alu_w_op(three: u32, high: u32) -> Option<AluOp>
+    ensures { result ≡ alu_w_by three high }
+{
+    match (three, high) {
+        (0, 0) => Some(AluOp::Addw),
+        (1, 0) => Some(AluOp::Sllw),
+        (5, 0) => Some(AluOp::Srlw),
+        (0, 32) => Some(AluOp::Subw),
+        (5, 32) => Some(AluOp::Sraw),
+        (0, 1) => Some(AluOp::Mulw),
+        (4, 1) => Some(AluOp::Divw),
+        (5, 1) => Some(AluOp::Divuw),
+        (6, 1) => Some(AluOp::Remw),
+        (7, 1) => Some(AluOp::Remuw),
+        _ => None,
+    }
+}
+
+fn imm_op(three: u32, high: u32) -> Option<ImmOp>
+    ensures { result ≡ imm_by three high }
+{
+    match (three, high) {
+        (0, _) => Some(ImmOp::Addi),
+        (2, _) => Some(ImmOp::Slti),
+        (3, _) => Some(ImmOp::Sltiu),
+        (4, _) => Some(ImmOp::Xori),
+        (6, _) => Some(ImmOp::Ori),
+        (7, _) => Some(ImmOp::Andi),
+        (1, 0) => Some(ImmOp::Slli),
+        (5, 0) => Some(ImmOp::Srli),
+        (5, 16) => Some(ImmOp::Srai),
+        _ => None,
+    }
+}
+
+fn imm_w_op(three: u32, high: u32) -> Option<ImmOp>
+    ensures { result ≡ imm_w_by three high }
+{
+    match (three, high) {
+        (0, _) => Some(ImmOp::Addiw),
+        (1, 0) => Some(ImmOp::Slliw),
+        (5, 0) => Some(ImmOp::Srliw),
+        (5, 32) => Some(ImmOp::Sraiw),
+        _ => None,
+    }
+}
+
+fn load_op(three: u32) -> Option<LoadOp>
+    ensures { result ≡ load_by three }
+{
+    match three {
+        0 => Some(LoadOp::Lb),
+        1 => Some(LoadOp::Lh),
+        2 => Some(LoadOp::Lw),
+        3 => Some(LoadOp::Ld),
+        4 => Some(LoadOp::Lbu),
+        5 => Some(LoadOp::Lhu),
+        6 => Some(LoadOp::Lwu),
+        _ => None,
+    }
+}
+
+fn store_op(three: u32) -> Option<StoreOp>
+    ensures { result ≡ store_by three }
+{
+    match three {
+        0 => Some(StoreOp::Sb),
+        1 => Some(StoreOp::Sh),
+        2 => Some(StoreOp::Sw),
+        3 => Some(StoreOp::Sd),
+        _ => None,
+    }
+}
+
+fn branch_op(three: u32) -> Option<BranchOp>
+    ensures { result ≡ branch_by three }
+{
+    match three {
+        0 => Some(BranchOp::Beq),
+        1 => Some(BranchOp::Bne),
+        4 => Some(BranchOp::Blt),
+        5 => Some(BranchOp::Bge),
+        6 => Some(BranchOp::Bltu),
+        7 => Some(BranchOp::Bgeu),
+        _ => None,
+    }
+}
+
+fn immediate(op: ImmOp, word: u32) -> i32
+    ensures { result ≡ imm_for op word }
+{
+    match op {
+        ImmOp::Slli | ImmOp::Srli | ImmOp::Srai => ((word >> 20) % 64) as i32,
+        ImmOp::Slliw | ImmOp::Srliw | ImmOp::Sraiw => ((word >> 20) % 32) as i32,
+        _ => i_immediate(word),
+    }
+}
+
+/// The instruction that a word stands for.
+#[tactic(auto, using(crate::proofs::Rows::alu33_forth, crate::proofs::Rows::alu33_back, crate::proofs::Rows::alu3b_forth, crate::proofs::Rows::alu3b_back, crate::proofs::Rows::imm13_forth, crate::proofs::Rows::imm13_back, crate::proofs::Rows::imm1b_forth, crate::proofs::Rows::imm1b_back))]
+pub fn decode(word: u32) -> Option<Instr>
+    ensures table { (i : Instr) → (result ≡ Some i) ↔ Means word i }
+    ensures value { result ≡ decoded word }
+{
+    let three = (word >> 12) % 8;
+    match word % 128 {
+        0x33 => match alu_op(three, word >> 25) {
+            Some(op) => Some(Instr::Alu {
+                op,
+                rd: rd(word),
+                rs1: rs1(word),
+                rs2: rs2(word),
+            }),
+            None => None,
+        },
+        0x3B => match alu_w_op(three, word >> 25) {
+            Some(op) => Some(Instr::Alu {
+                op,
+                rd: rd(word),
+                rs1: rs1(word),
+                rs2: rs2(word),
+            }),
+            None => None,
+        },
+        0x13 => match imm_op(three, word >> 26) {
+            Some(op) => Some(Instr::AluImm {
+                op,
+                rd: rd(word),
+                rs1: rs1(word),
+                imm: immediate(op, word),
+            }),
+            None => None,
+        },
+        0x1B => match imm_w_op(three, word >> 25) {
+            Some(op) => Some(Instr::AluImm {
+                op,
+                rd: rd(word),
+                rs1: rs1(word),
+                imm: immediate(op, word),
+            }),
+            None => None,
+        },
+        0x37 => Some(Instr::Upper {
+            op: UpperOp::Lui,
+            rd: rd(word),
+            imm: u_immediate(word),
+        }),
+        0x17 => Some(Instr::Upper {
+            op: UpperOp::Auipc,
+            rd: rd(word),
+            imm: u_immediate(word),
+        }),
+        0x03 => match load_op(three) {
+            Some(op) => Some(Instr::Load {
+                op,
+                rd: rd(word),
+                rs1: rs1(word),
+                imm: i_immediate(word),
+            }),
+            None => None,
+        },
+        0x23 => match store_op(three) {
+            Some(op) => Some(Instr::Store {
+                op,
+                rs1: rs1(word),
+                rs2: rs2(word),
+                imm: s_immediate(word),
+            }),
+            None => None,
+        },
+        0x63 => match branch_op(three) {
+            Some(op) => Some(Instr::Branch {
+                op,
+                rs1: rs1(word),
+                rs2: rs2(word),
+                imm: b_immediate(word),
+            }),
+            None => None,
+        },
+        0x6F => Some(Instr::Jal {
+            rd: rd(word),
+            imm: j_immediate(word),
+        }),
+        0x67 if three == 0 => Some(Instr::Jalr {
+            rd: rd(word),
+            rs1: rs1(word),
+            imm: i_immediate(word),
+        }),
+        0x0F if three == 0 => Some(Instr::Fence {
+            rd: rd(word),
+            rs1: rs1(word),
+            imm: i_immediate(word),
+        }),
+        _ => match word {
+            0x73 => Some(Instr::Ecall),
+            0x10_0073 => Some(Instr::Ebreak),
+            _ => None,
+        },
+    }
+}
