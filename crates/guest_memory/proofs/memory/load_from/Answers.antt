@@ -1,0 +1,25 @@
+use Rattle.std.proofs.Common.{◌≡◌, ◌-◌, ℕ, true, false, drop, Ok, ap, sym, ◌∙◌}
+use Rattle.std.proofs.lemmas.List.{get_or_read}
+use Rattle.rv64_decode.specs.Area.{Area, bytes_of}
+use Rattle.byteorder.specs.Endian.{little_number}
+use Rattle.guest_memory.specs.Layout.{nth_area, no_area}
+use Rattle.guest_memory.proofs.Areas.{load-denied, load-number}
+use Rattle.guest_memory.proofs.memory.load_from.Goals as goal
+
+pub returns-then-not-is_readable-clause-answer : goal.returns-then-not-is_readable-clause-answer
+returns-then-not-is_readable-clause-answer c =
+    let m = c.args.areas.now in
+    let p = c.in_ok-i.ensures.placed in
+    let here : c.index-areas-i.result ≡ nth_area m c.in_ok-i.i = get_or_read m c.in_ok-i.i _ p.within c.index-areas-i.is no_area in
+    let closed : (nth_area m c.in_ok-i.i).readable ≡ false = ap (λ (v : Area). v.readable) (sym here) ∙ sym c.is_readable.ensures ∙ c.if-not-is_readable.true in
+    sym (load-denied m c.in_ok-i.i c.args.addr c.args.width c.requires p closed)
+
+pub returns-clause-answer : goal.returns-clause-answer
+returns-clause-answer c =
+    let m = c.args.areas.now in
+    let p = c.in_ok-i.ensures.placed in
+    let here : c.index-areas-i.result ≡ nth_area m c.in_ok-i.i = get_or_read m c.in_ok-i.i _ p.within c.index-areas-i.is no_area in
+    let free : (nth_area m c.in_ok-i.i).readable ≡ true = ap (λ (v : Area). v.readable) (sym here) ∙ sym c.is_readable.ensures ∙ c.if-not-is_readable.false in
+    let number : c.number.result ≡ little_number (bytes_of c.args.width) (drop (c.args.addr - (nth_area m c.in_ok-i.i).low) (nth_area m c.in_ok-i.i).bytes) =
+    c.number.ensures.number ∙ ap (λ (v : Area). little_number (bytes_of c.args.width) (drop (c.args.addr - v.low) v.bytes)) here in
+    ap (λ (v : ℕ). Ok v) number ∙ sym (load-number m c.in_ok-i.i c.args.addr c.args.width c.requires p free)

@@ -1,0 +1,126 @@
+ghost use Rattle.std.specs.Prelude.{◌≡◌, ◌+◌, ◌-◌, ◌*◌, ◌/◌, ◌%◌, ◌<◌, ◌≤◌, ◌^◌, ℕ, length, drop, IsTrue, ◌↔◌};
+ghost use Rattle.rv64_decode.specs.Area.{bytes_of, holds as holds_of};
+ghost use Rattle.byteorder.specs.Endian.{little_number};
+ghost use Rattle.guest_memory.specs.Layout.{end_of, with_bytes};
+
+use byteorder::{ByteOrder, LittleEndian};
+use std::marker::Model;
+use rv64_decode::Width;
+
+/// Bytes from an address on, and what may be done with them.
+#[derive(Drop)]
+pub struct Piece {
+    low: u64,
+    readable: bool,
+    writable: bool,
+    executable: bool,
+    bytes: Vec<u8>,
+}
+
+impl Model for Piece {
+    ghost use Rattle.rv64_decode.specs.Area.{Area};
+    ghost use Rattle.guest_memory.specs.Layout.{end_of};
+    ghost use Rattle.std.specs.Prelude.{◌+◌, ◌<◌, ◌^◌, length};
+
+    ghost Value = { Area };
+
+    ghost view = { λ p. record { low = p.low; readable = p.readable; writable = p.writable; executable = p.executable; bytes = p.bytes.items } };
+
+    ghost invariant = { λ p. p.low + length p.bytes.items < 2 ^ 63 };
+}
+
+impl Piece {
+    pub fn new(low: u64, readable: bool, writable: bool, executable: bool, bytes: Vec<u8>) -> Piece
+        requires { low + length bytes.items < 2 ^ 63 }
+        ensures { result ≡ record { low = low; readable = readable; writable = writable; executable = executable; bytes = bytes.items } }
+    {
+        Piece {
+            low,
+            readable,
+            writable,
+            executable,
+            bytes,
+        }
+    }
+
+    pub fn holds(&self, addr: u64) -> bool
+        ensures { result ≡ holds_of self.now addr }
+    {
+        self.low <= addr && addr < self.low + self.bytes.len() as u64
+    }
+
+    pub fn low(&self) -> u64
+        ensures { result ≡ self.now.low }
+    {
+        self.low
+    }
+
+    pub fn end(&self) -> u64
+        ensures { result ≡ end_of self.now }
+    {
+        self.low + self.bytes.len() as u64
+    }
+
+    pub fn is_readable(&self) -> bool
+        ensures { result ≡ self.now.readable }
+    {
+        self.readable
+    }
+
+    pub fn is_executable(&self) -> bool
+        ensures { result ≡ self.now.executable }
+    {
+        self.executable
+    }
+
+    pub fn is_writable(&self) -> bool
+        ensures { result ≡ self.now.writable }
+    {
+        self.writable
+    }
+
+    pub fn number(&self, addr: u64, width: Width) -> u64
+        requires from { self.now.low ≤ addr }
+        requires to { addr + bytes_of width ≤ end_of self.now }
+        ensures number { result ≡ little_number (bytes_of width) (drop (addr - self.now.low) self.now.bytes) }
+        ensures fits { result < 256 ^ bytes_of width }
+    {
+        read(self.bytes.as_slice(), (addr - self.low) as usize, width)
+    }
+
+    pub fn set_number(&mut self, addr: u64, width: Width, value: u64)
+        requires from { self.old.low ≤ addr }
+        requires to { addr + bytes_of width ≤ end_of self.old }
+        ensures { self.new ≡ record self.old { bytes = with_bytes (bytes_of width) (addr - self.old.low) value self.old.bytes } }
+    {
+        let place = (addr - self.low) as usize;
+        write(self.bytes.as_mut_slice(), place, width, value);
+    }
+}
+
+fn read(bytes: &[u8], place: usize, width: Width) -> u64
+    requires { place + bytes_of width ≤ length bytes.now }
+    ensures number { result ≡ little_number (bytes_of width) (drop place bytes.now) }
+    ensures fits { result < 256 ^ bytes_of width }
+{
+    let rest = &bytes[place..];
+    match width {
+        Width::One => rest[0] as u64,
+        Width::Two => LittleEndian::read_u16(rest) as u64,
+        Width::Four => LittleEndian::read_u32(rest) as u64,
+        Width::Eight => LittleEndian::read_u64(rest),
+    }
+}
+
+fn write(bytes: &mut [u8], place: usize, width: Width, value: u64)
+    requires { place + bytes_of width ≤ length bytes.old }
+    ensures { bytes.new ≡ with_bytes (bytes_of width) place value bytes.old }
+{
+    let all = value.to_le_bytes();
+    match width {
+        Width::One => bytes[place] = all[0],
+        Width::Two => bytes[place..place + 2].copy_from_slice(&all[..2]),
+        Width::Four => bytes[place..place + 4].copy_from_slice(&all[..4]),
+        Width::Eight => bytes[place..place + 8].copy_from_slice(&all),
+    }
+}

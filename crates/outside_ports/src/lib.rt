@@ -1,0 +1,7 @@
+// What a program reads from and writes to outside itself: a source, a sink, a store of named files
+// and a gate, with fakes that tell their content and adapters to the real world.
+#![tactic(auto)]
+
+pub mod ports;
+
+pub use ports::{Failed, Gate, SaveErr, Sink, Source, Store, StoreErr};
