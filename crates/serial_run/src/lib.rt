@@ -1,0 +1,6 @@
+// The serial machine: one hart runs an executable to its ending.
+#![tactic(auto)]
+
+pub mod machine;
+
+pub use machine::{End, Machine};
