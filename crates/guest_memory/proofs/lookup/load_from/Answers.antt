@@ -4,7 +4,7 @@ use Rattle.rv64_decode.specs.Area.{Area, bytes_of}
 use Rattle.byteorder.specs.Endian.{little_number}
 use Rattle.guest_memory.specs.Layout.{nth_area, no_area}
 use Rattle.guest_memory.proofs.Areas.{load-denied, load-number}
-use Rattle.guest_memory.proofs.memory.load_from.Goals as goal
+use Rattle.guest_memory.proofs.lookup.load_from.Goals as goal
 
 pub returns-then-not-is_readable-clause-answer : goal.returns-then-not-is_readable-clause-answer
 returns-then-not-is_readable-clause-answer c =
