@@ -64,14 +64,10 @@ pub(crate) fn peek_from(areas: &[Piece], last: usize, addr: u64, width: Width) -
     ensures fits { IfOk result (λ n. n < 256 ^ bytes_of width) }
 {
     let i = place_of(areas, last, addr, width)?;
-    let area = &areas[i];
-    if !area.is_readable() {
-        return Err(MemFault::Denied);
-    }
-    Ok(area.number(addr, width))
+    load_at(areas, i, addr, width)
 }
 
-// What a load answers; it notes the area.
+// What a load answers; the area is the one to be tried first from now on.
 pub(crate) fn load_from(areas: &[Piece], last: &mut usize, addr: u64, width: Width) -> Result<u64, MemFault>
     requires { LieFrom 0 areas.now }
     ensures answer { result ≡ load_of areas.now addr width }
@@ -79,6 +75,16 @@ pub(crate) fn load_from(areas: &[Piece], last: &mut usize, addr: u64, width: Wid
 {
     let i = place_of(areas, *last, addr, width)?;
     *last = i;
+    load_at(areas, i, addr, width)
+}
+
+// What a load from an area answers.
+fn load_at(areas: &[Piece], i: usize, addr: u64, width: Width) -> Result<u64, MemFault>
+    requires lie { LieFrom 0 areas.now }
+    requires place { IsPlace areas.now i addr width }
+    ensures answer { result ≡ load_of areas.now addr width }
+    ensures fits { IfOk result (λ n. n < 256 ^ bytes_of width) }
+{
     let area = &areas[i];
     if !area.is_readable() {
         return Err(MemFault::Denied);
@@ -91,8 +97,10 @@ pub(crate) fn word_from(areas: &[Piece], last: usize, addr: u64) -> Option<u64>
     requires { LieFrom 0 areas.now }
     ensures { result ≡ word_of areas.now addr }
 {
-    let i = place_of(areas, last, addr, Width::Eight).ok()?;
-    Some(areas[i].number(addr, Width::Eight))
+    match place_of(areas, last, addr, Width::Eight) {
+        Ok(i) => Some(areas[i].number(addr, Width::Eight)),
+        Err(_) => None,
+    }
 }
 
 // Sets the word at an address.
