@@ -1,10 +1,10 @@
 -- Bytes in a row: which of them are permitted, and what they are after a write.
-use Rattle.std.proofs.Common.{◌≡◌, ℕ, zero, suc, ◌+◌, ◌-◌, ◌<◌, ◌≤◌, List, [], ◌∷◌, ◌++◌, length, get_or, take, drop, set, None, true, false, Bool, ◌&&◌, refl, ap, sym, ◌∙◌, arith, drop-cons}
-use Rattle.std.proofs.lemmas.List.{length-set, length-drop, length-take-le, append_assoc, take-append-drop, drop-set-lt, set-set, set-get_or}
+use Rattle.std.proofs.Common.{◌≡◌, ℕ, zero, suc, ◌+◌, ◌-◌, ◌<◌, ◌≤◌, ◌^◌, List, [], ◌∷◌, ◌++◌, length, get_or, take, drop, set, None, true, false, Bool, ◌&&◌, refl, ap, sym, ◌∙◌, arith, drop-cons}
+use Rattle.std.proofs.lemmas.List.{length-set, length-drop, length-take-le, length-append, at_drop_more, append_assoc, take-append-drop, drop-set-lt, set-set, set-get_or}
 use Rattle.std.proofs.Math.Seq.{take-suc-set}
 use Rattle.rv64_decode.specs.Area.{Area, holds, area_at, byte_at, with_byte}
 use Rattle.guest_memory.specs.Layout.{end_of, LieFrom, no_area, nth_area, spliced}
-use Rattle.guest_memory.specs.Spans.{permits_in, permits, all_permitted, bytes_at, with_bytes_at}
+use Rattle.guest_memory.specs.Spans.{permits_in, permits, all_permitted, bytes_at, with_bytes_at, all_bytes}
 use Rattle.guest_memory.proofs.Areas.{area_at-nth, byte_at-nth, with_byte-nth, rebytes, LieFrom-set, nth-set}
 
 both_left : (a b : Bool) → (a && b) ≡ true → a ≡ true
@@ -196,3 +196,15 @@ set_turn-permitted p m new x n xs blind h e all =
     ap (λ (v : List Area). all_permitted p (length (drop n xs)) v (x + n)) e
     ∙ all_permitted-with_bytes_at p (take n xs) m x (length (drop n xs)) (x + n) blind
     ∙ all_permitted-rest p m n (length (drop n xs)) (length xs) x (x + n) (omega arith) refl all
+
+-- all bytes of the areas, from one of them on
+pub all_bytes-drop : (m : List Area) (i : ℕ) → i < length m → all_bytes (drop i m) ≡ (nth_area m i).bytes ++ all_bytes (drop (i + 1) m)
+all_bytes-drop m i h = at_drop_more all_bytes m i no_area h
+
+pub length-all_bytes : (from : ℕ) (m : List Area) → LieFrom from m → from < 2 ^ 63 → from + length (all_bytes m) < 2 ^ 63
+length-all_bytes from [] lie h = omega arith
+length-all_bytes from (a ∷ rest) lie h =
+    let e = length-all_bytes (end_of a) rest lie.4 lie.3 in
+    let l = lie.0 in
+    let both = length-append a.bytes (all_bytes rest) in
+    omega arith

@@ -65,29 +65,18 @@ fn end_of(segment: &Segment) -> u64
     (segment.vaddr + segment.memsz + 7) / 8 * 8
 }
 
-// The bytes of a segment's widened byte range.
-fn load_bytes(alloc: Global, segment: &Segment) -> Result<Vec<u8>, AllocError>
-    requires bytes { length segment.now.bytes ≤ segment.now.memsz }
-    requires end { segment.now.vaddr + segment.now.memsz ≤ load_end }
-    ensures { IfOk result (λ v. v.items ≡ (segment_area segment.now).bytes) }
-{
-    let low = low_of(segment);
-    let file = segment.bytes.as_slice();
-    let mut bytes = zero_bytes(alloc, end_of(segment) - low)?;
-    let front = (segment.vaddr - low) as usize;
-    bytes.as_mut_slice()[front..front + file.len()].copy_from_slice(file);
-    Ok(bytes)
-}
-
 // The area of a segment.
 fn load_area(alloc: Global, segment: &Segment) -> Result<Piece, AllocError>
     requires bytes { length segment.now.bytes ≤ segment.now.memsz }
     requires end { segment.now.vaddr + segment.now.memsz ≤ load_end }
     ensures { IfOk result (λ area. area ≡ segment_area segment.now) }
 {
-    let bytes = load_bytes(alloc, segment)?;
+    let low = low_of(segment);
     let readable = segment.flags / 4 % 2 == 1;
     let writable = segment.flags / 2 % 2 == 1;
     let executable = segment.flags % 2 == 1;
-    Ok(Piece::new(low_of(segment), readable, writable, executable, bytes))
+    let bytes = zero_bytes(alloc, end_of(segment) - low)?;
+    let mut area = Piece::new(low, readable, writable, executable, bytes);
+    area.set_bytes(segment.vaddr, segment.bytes.as_slice());
+    Ok(area)
 }
