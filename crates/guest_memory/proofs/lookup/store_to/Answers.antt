@@ -3,7 +3,7 @@ use Rattle.std.proofs.lemmas.List.{get_or_default}
 use Rattle.rv64_decode.specs.Area.{Area}
 use Rattle.guest_memory.specs.Layout.{nth_area, no_area}
 use Rattle.guest_memory.proofs.Areas.{store-denied, store-done, after-denied, after-done, stored-lie, stored_in}
-use Rattle.guest_memory.proofs.memory.store_to.Goals as goal
+use Rattle.guest_memory.proofs.lookup.store_to.Goals as goal
 
 pub returns-then-not-is_writable-clause-answer : goal.returns-then-not-is_writable-clause-answer
 returns-then-not-is_writable-clause-answer c =

@@ -1,7 +1,7 @@
 use Rattle.std.proofs.Common.{◌≡◌, ◌%◌}
 use Rattle.rv64_decode.specs.Area.{bytes_of}
 use Rattle.guest_memory.proofs.Areas.{is_place}
-use Rattle.guest_memory.proofs.memory.place_of.Goals as goal
+use Rattle.guest_memory.proofs.lookup.place_of.Goals as goal
 
 pub returns-in-Some-clause-placed : goal.returns-in-Some-clause-placed
 returns-in-Some-clause-placed c =

@@ -5,7 +5,7 @@ use Rattle.byteorder.specs.Endian.{little_number}
 use Rattle.guest_memory.specs.Layout.{nth_area, no_area}
 use Rattle.guest_memory.proofs.Areas.{fetch-denied, fetch-number}
 use Rattle.rv64_decode.specs.declared.memory.Width.TheVariants.{Four}
-use Rattle.guest_memory.proofs.memory.fetch_from.Goals as goal
+use Rattle.guest_memory.proofs.lookup.fetch_from.Goals as goal
 
 pub returns-then-not-is_executable : goal.returns-then-not-is_executable
 returns-then-not-is_executable c =

@@ -1,6 +1,6 @@
 use Rattle.std.proofs.Common.{ℕ, ◌<◌, ◌≤◌, ◌-◌, length}
 use Rattle.guest_memory.specs.Layout.{end_of, nth_area}
-use Rattle.guest_memory.proofs.memory.search_for.Given as goal
+use Rattle.guest_memory.proofs.lookup.search_for.Given as goal
 
 abbrev pub invariant-loop-low : goal.invariant-loop-low
 invariant-loop-low l =

@@ -3,8 +3,8 @@ use Rattle.std.proofs.lemmas.List.{get_or_read}
 use Rattle.rv64_decode.specs.Area.{Area, holds}
 use Rattle.guest_memory.specs.Layout.{end_of, nth_area, no_area}
 use Rattle.guest_memory.proofs.Areas.{ends_upto, none_between}
-use Rattle.guest_memory.proofs.memory.search_for.Goals as goal
-use Rattle.guest_memory.proofs.memory.search_for.Goals.{else-low-areas-via-then-low-areas+else-holds, else-low-areas-via-else-low-areas}
+use Rattle.guest_memory.proofs.lookup.search_for.Goals as goal
+use Rattle.guest_memory.proofs.lookup.search_for.Goals.{else-low-areas-via-then-low-areas+else-holds, else-low-areas-via-else-low-areas}
 
 pub loop-low-preserved-then-end-addr : goal.loop-low-preserved-then-end-addr
 loop-low-preserved-then-end-addr c =
