@@ -36,36 +36,53 @@ a7 regs = register regs 17
 abbrev pub negated : ℕ → ℕ
 negated n = 2 ^ 64 - n
 
--- the answer is n, and nothing else changes
+-- a call with this answer, which changes nothing but a0
 abbrev pub answered : ℕ → List ℕ → List Area → Brk → List ℕ → Called
-answered n regs memory brk rest =
-    record { regs = with_register regs 10 n; memory = memory; brk = brk; written = []; rest = rest; going = On }
+answered answer regs memory brk rest =
+    record { regs = with_register regs 10 answer; memory = memory; brk = brk; written = []; rest = rest; going = On }
 
--- read: the bytes of the input, as many as are asked and there, go to the buffer at a1
+-- the bytes of the input that a read takes: as many as are asked for and there, where the descriptor
+-- is 0 and all of the buffer may be written
+abbrev pub bytes_read : ℕ → ℕ → ℕ → List Area → List ℕ → List ℕ
+bytes_read fd addr len memory rest =
+    if fd == 0 && all_permitted writable_of len memory addr then take len rest else []
+
+-- how many they are, or -9 (EBADF) for another descriptor, or -14 (EFAULT) for another buffer
+abbrev pub read_answer : ℕ → ℕ → ℕ → List Area → List ℕ → ℕ
+read_answer fd addr len memory rest =
+    if not (fd == 0) then negated 9 else
+    if not (all_permitted writable_of len memory addr) then negated 14 else length (take len rest)
+
 abbrev pub read_call : List ℕ → List Area → Brk → List ℕ → Called
 read_call regs memory brk rest =
-    if not (a0 regs == 0) then answered (negated 9) regs memory brk rest else
-    if not (all_permitted writable_of (a2 regs) memory (a1 regs)) then answered (negated 14) regs memory brk rest else
-    (let got = take (a2 regs) rest in
-     record {
-       regs = with_register regs 10 (length got);
-       memory = with_bytes_at memory (a1 regs) got;
-       brk = brk;
-       written = [];
-       rest = drop (a2 regs) rest;
-       going = On;
-     })
+    let got = bytes_read (a0 regs) (a1 regs) (a2 regs) memory rest in
+    record {
+      regs = with_register regs 10 (read_answer (a0 regs) (a1 regs) (a2 regs) memory rest);
+      memory = with_bytes_at memory (a1 regs) got;
+      brk = brk;
+      written = [];
+      rest = drop (length got) rest;
+      going = On;
+    }
 
--- write: the a2 bytes at a1 are appended to the output
+-- the bytes that a write appends to the output: those of the buffer, where the descriptor is 1 or 2
+-- and all of the buffer may be read
+abbrev pub bytes_written : ℕ → ℕ → ℕ → List Area → List ℕ
+bytes_written fd addr len memory =
+    if (fd == 1 || fd == 2) && all_permitted readable_of len memory addr then bytes_at len memory addr else []
+
+abbrev pub write_answer : ℕ → ℕ → ℕ → List Area → ℕ
+write_answer fd addr len memory =
+    if not (fd == 1 || fd == 2) then negated 9 else
+    if not (all_permitted readable_of len memory addr) then negated 14 else len
+
 abbrev pub write_call : List ℕ → List Area → Brk → List ℕ → Called
 write_call regs memory brk rest =
-    if not (a0 regs == 1 || a0 regs == 2) then answered (negated 9) regs memory brk rest else
-    if not (all_permitted readable_of (a2 regs) memory (a1 regs)) then answered (negated 14) regs memory brk rest else
     record {
-      regs = with_register regs 10 (a2 regs);
+      regs = with_register regs 10 (write_answer (a0 regs) (a1 regs) (a2 regs) memory);
       memory = memory;
       brk = brk;
-      written = bytes_at (a2 regs) memory (a1 regs);
+      written = bytes_written (a0 regs) (a1 regs) (a2 regs) memory;
       rest = rest;
       going = On;
     }
@@ -75,15 +92,15 @@ abbrev pub exit_call : List ℕ → List Area → Brk → List ℕ → Called
 exit_call regs memory brk rest =
     record { regs = regs; memory = memory; brk = brk; written = []; rest = rest; going = Exit (a0 regs % 256) }
 
--- brk: the break moves to a0 where that lies in the heap or at its end
+-- the break moves where the address lies in the heap or at its end
 abbrev pub moved_break : Brk → ℕ → ℕ
 moved_break brk to = if nat_le brk.low to && nat_le to brk.high then to else brk.at
 
 abbrev pub brk_call : List ℕ → List Area → Brk → List ℕ → Called
 brk_call regs memory brk rest =
-    answered (moved_break brk (a0 regs)) regs memory (record brk { at = moved_break brk (a0 regs) }) rest
+    let at = moved_break brk (a0 regs) in answered at regs memory (record brk { at = at }) rest
 
--- the table of calls
+-- the table of calls; every other number is answered by -38 (ENOSYS)
 unfoldable pub called : List ℕ → List Area → Brk → List ℕ → Called
 called regs memory brk rest =
     if a7 regs == 63 then read_call regs memory brk rest else

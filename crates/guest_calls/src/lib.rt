@@ -1,6 +1,9 @@
 // The calls of a guest's environment: read, write, exit and brk.
 #![tactic(auto)]
 
+
+pub mod calls;
+
 /// The guest's break, which moves within the heap.
 #[derive(Clone, Copy, PartialEq, Eq, Debug)]
 pub struct Brk {
