@@ -6,7 +6,7 @@ ghost use Rattle.guest_memory.specs.Spans.{all_permitted, bytes_at, with_bytes_a
 ghost use Rattle.guest_calls.specs.Calls.{called, bytes_read, read_answer, bytes_written, write_answer, moved_break};
 
 use crate::{Brk, Going, PortFault};
-use guest_memory::memory::Memory;
+use guest_memory::Memory;
 use outside_ports::{Sink, Source};
 use rv64_decode::{Reg, Regs};
 

@@ -1,8 +1,9 @@
 // The calls of a guest's environment: read, write, exit and brk.
 #![tactic(auto)]
 
+mod calls;
 
-pub mod calls;
+pub use calls::call;
 
 /// The guest's break, which moves within the heap.
 #[derive(Clone, Copy, PartialEq, Eq, Debug)]

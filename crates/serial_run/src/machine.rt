@@ -1,5 +1,5 @@
 use guest_calls::Brk;
-use guest_memory::memory::Memory;
+use guest_memory::Memory;
 use rv64_decode::{Fault, Regs};
 
 /// How a run ends.

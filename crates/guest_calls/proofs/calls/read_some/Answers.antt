@@ -3,11 +3,8 @@ use Rattle.rv64_decode.specs.Area.{writable_of}
 use Rattle.guest_calls.proofs.Spans.{permitted_taken}
 use Rattle.guest_calls.proofs.calls.read_some.Goals as goal
 
-pub set_bytes-requires-clause-fake : goal.set_bytes-requires-clause-fake
-set_bytes-requires-clause-fake g c = ?
-
-pub set_bytes-requires-clause-writable : goal.set_bytes-requires-clause-writable
-set_bytes-requires-clause-writable g c =
+pub set_bytes-requires : goal.set_bytes-requires
+set_bytes-requires g c =
     permitted_taken writable_of _ _ _ c.args.mem.now c.args.addr c.requires.writable (omega (arith, c.in-Ok.ensures.count))
 
 pub returns-clause-at_end : goal.returns-clause-at_end

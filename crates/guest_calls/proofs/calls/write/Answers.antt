@@ -15,6 +15,6 @@ returns-in-Err-clause-prefix g c = λ ys h.
           | else-fd-ne1-via-then-fd-ne1+else-fd-ne2 w ↦ grind (arith, nat_tests)
           | else-fd-ne1-via-else-fd-ne1 w ↦ grind (arith, nat_tests)
         ] in
-    let open_to : all_permitted readable_of c.args.len c.args.mem.now c.args.addr ≡ true = sym c.can_read.ensures.answer ∙ c.if-not-can_read.false in
+    let open_to : all_permitted readable_of c.args.len c.args.mem.now c.args.addr ≡ true = sym c.can_read.ensures.value ∙ c.if-not-can_read.false in
     let sent = sent_bytes c.args.fd c.args.addr c.args.len c.args.mem.now output open_to in
     (p.0, rw (sent, take_bytes_at p.0 c.args.len c.args.mem.now c.args.addr p.1) p.2)
