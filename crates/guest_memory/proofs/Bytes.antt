@@ -1,10 +1,10 @@
 -- Bytes in a row: which of them are permitted, and what they are after a write.
-use Rattle.std.proofs.Common.{◌≡◌, ℕ, zero, suc, ◌+◌, ◌-◌, ◌<◌, ◌≤◌, ◌^◌, List, [], ◌∷◌, ◌++◌, length, get_or, take, drop, set, None, true, false, Bool, ◌&&◌, refl, ap, sym, ◌∙◌, arith, drop-cons}
+use Rattle.std.proofs.Common.{◌≡◌, ℕ, zero, suc, ◌+◌, ◌-◌, ◌<◌, ◌≤◌, ◌^◌, List, [], ◌∷◌, ◌++◌, length, take, drop, set, None, true, false, Bool, ◌&&◌, refl, ap, sym, ◌∙◌, arith, drop-cons}
 use Rattle.std.proofs.lemmas.List.{length-set, length-drop, length-take-le, length-append, at_drop_more, append_assoc, take-append-drop, drop-set-lt, set-set, set-get_or}
 use Rattle.std.proofs.Math.Seq.{take-suc-set}
-use Rattle.rv64_decode.specs.Area.{Area, holds, area_at, byte_at, with_byte}
+use Rattle.rv64_decode.specs.Area.{Area, holds, area_at, with_byte}
 use Rattle.guest_memory.specs.Layout.{end_of, LieFrom, no_area, nth_area, spliced}
-use Rattle.guest_memory.specs.Spans.{permits_in, permits, all_permitted, bytes_at, with_bytes_at, all_bytes}
+use Rattle.guest_memory.specs.Spans.{permits, all_permitted, bytes_at, with_bytes_at, all_bytes}
 use Rattle.guest_memory.proofs.Areas.{area_at-nth, byte_at-nth, with_byte-nth, rebytes, LieFrom-set, nth-set}
 
 both_left : (a b : Bool) → (a && b) ≡ true → a ≡ true

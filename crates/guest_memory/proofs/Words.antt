@@ -1,14 +1,14 @@
 -- The aligned words of areas.
-use Rattle.std.proofs.Common.{◌≡◌, ◌≢◌, ℕ, zero, suc, ◌+◌, ◌-◌, ◌*◌, ◌/◌, ◌%◌, ◌==◌, ◌<◌, ◌≤◌, ◌^◌, List, [], ◌∷◌, ◌++◌, length, drop, Option, Some, None, Result, Ok, Err, IsSome, IsOk, IfErr, true, false, Bool, cond, refl, ap, sym, ◌∙◌, arith}
+use Rattle.std.proofs.Common.{◌≡◌, ℕ, suc, ◌+◌, ◌-◌, ◌%◌, ◌==◌, ◌<◌, ◌≤◌, List, [], ◌∷◌, ◌++◌, length, drop, Option, Some, None, Result, Ok, Err, IsSome, IsOk, IfErr, true, false, Bool, cond, refl, ap, arith}
 use Rattle.std.proofs.lemmas.List.{append_assoc, append-nil, at_drop_more}
-use Rattle.rv64_decode.specs.Area.{Area, area_at, number_at, why, why_in, bytes_of}
+use Rattle.rv64_decode.specs.Area.{Area, area_at, number_at, why_in}
 use Rattle.rv64_decode.specs.declared.memory.Width.TheVariants.{Eight}
 use Rattle.rv64_decode.specs.declared.memory.MemFault.{MemFault}
 use Rattle.rv64_decode.specs.declared.memory.MemFault.TheVariants.{Misaligned}
 use Rattle.byteorder.specs.Endian.{little_number}
 use Rattle.guest_memory.specs.Layout.{end_of, LieFrom, no_area, nth_area, IsPlace, IsRefused}
 use Rattle.guest_memory.specs.Words.{if_in_area, word_of, words_from, words_in, words_of_all}
-use Rattle.guest_memory.proofs.Areas.{IsAligned, aligned, area_at-nth, number_at-place}
+use Rattle.guest_memory.proofs.Areas.{aligned, area_at-nth, number_at-place}
 
 word_step : (found : Option Area) (even : Bool) (n : ℕ) (fault : MemFault) → cond even (why_in (λ _. true) found) (Some Misaligned) ≡ Some fault → cond even (if_in_area found n) None ≡ None
 word_step None true n fault h = refl

@@ -43,7 +43,12 @@ pub(crate) fn find(areas: &[Piece], last: usize, addr: u64) -> Option<usize>
 }
 
 // The place of the area in which an access lies, or why it lies in none.
-pub(crate) fn place_of(areas: &[Piece], last: usize, addr: u64, width: Width) -> Result<usize, MemFault>
+pub(crate) fn place_of(
+    areas: &[Piece],
+    last: usize,
+    addr: u64,
+    width: Width,
+) -> Result<usize, MemFault>
     requires { LieFrom 0 areas.now }
     ensures placed { IfOk result (λ i. IsPlace areas.now i addr width) }
     ensures refused { IfErr result (λ fault. IsRefused areas.now addr width fault) }
@@ -58,7 +63,12 @@ pub(crate) fn place_of(areas: &[Piece], last: usize, addr: u64, width: Width) ->
 }
 
 // What a load answers.
-pub(crate) fn peek_from(areas: &[Piece], last: usize, addr: u64, width: Width) -> Result<u64, MemFault>
+pub(crate) fn peek_from(
+    areas: &[Piece],
+    last: usize,
+    addr: u64,
+    width: Width,
+) -> Result<u64, MemFault>
     requires { LieFrom 0 areas.now }
     ensures answer { result ≡ load_of areas.now addr width }
     ensures fits { IfOk result (λ n. n < 256 ^ bytes_of width) }
@@ -68,7 +78,12 @@ pub(crate) fn peek_from(areas: &[Piece], last: usize, addr: u64, width: Width) -
 }
 
 // What a load answers; the area is the one to be tried first from now on.
-pub(crate) fn load_from(areas: &[Piece], last: &mut usize, addr: u64, width: Width) -> Result<u64, MemFault>
+pub(crate) fn load_from(
+    areas: &[Piece],
+    last: &mut usize,
+    addr: u64,
+    width: Width,
+) -> Result<u64, MemFault>
     requires { LieFrom 0 areas.now }
     ensures answer { result ≡ load_of areas.now addr width }
     ensures fits { IfOk result (λ n. n < 256 ^ bytes_of width) }

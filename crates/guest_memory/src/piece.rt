@@ -5,8 +5,8 @@ ghost use Rattle.guest_memory.specs.Layout.{end_of, with_bytes, spliced};
 ghost use Rattle.guest_memory.specs.Access.{permission_of};
 
 use byteorder::{ByteOrder, LittleEndian};
-use std::marker::Model;
 use rv64_decode::Width;
+use std::marker::Model;
 
 /// What is to be done with bytes.
 #[derive(Clone, Copy)]

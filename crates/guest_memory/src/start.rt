@@ -9,7 +9,9 @@ use elf_image::{Elf, Segment};
 use std::alloc::{AllocError, Global};
 
 const HEAP_SIZE: u64 = 16_777_216;
+
 const STACK_LOW: u64 = 0x7F00_0000;
+
 const STACK_SIZE: u64 = 0x80_0000;
 
 /// The memory that an executable starts with: the byte ranges of its load segments, widened outward

@@ -1,6 +1,5 @@
-use Rattle.std.proofs.Common.{◌≡◌, ◌+◌, ◌-◌, ◌≤◌, Bool, true, false, ap, sym, ◌∙◌, refl, arith}
+use Rattle.std.proofs.Common.{◌≡◌, ◌+◌, ◌-◌, ◌≤◌, true, false, ap, sym, ◌∙◌, refl, arith}
 use Rattle.std.proofs.lemmas.List.{get_or_read}
-use Rattle.rv64_decode.specs.Area.{Area}
 use Rattle.guest_memory.specs.Access.{permission_of}
 use Rattle.guest_memory.specs.Layout.{end_of, nth_area, no_area}
 use Rattle.guest_memory.proofs.Areas.{inside_holds}

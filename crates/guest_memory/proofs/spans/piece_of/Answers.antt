@@ -1,7 +1,7 @@
-use Rattle.std.proofs.Common.{◌≡◌, ◌+◌, ◌-◌, ◌≤◌, ◌<◌, ℕ, List, length, take, drop, ap, sym, ◌∙◌, refl, arith}
+use Rattle.std.proofs.Common.{◌≡◌, ◌-◌, ◌≤◌, ℕ, List, length, take, drop, ap, sym, ◌∙◌, arith}
 use Rattle.std.proofs.lemmas.List.{get_or_read, length-take-le, length-drop}
 use Rattle.rv64_decode.specs.Area.{Area}
-use Rattle.guest_memory.specs.Layout.{end_of, nth_area, no_area}
+use Rattle.guest_memory.specs.Layout.{nth_area, no_area}
 use Rattle.guest_memory.specs.Spans.{bytes_at}
 use Rattle.guest_memory.proofs.Areas.{inside_holds}
 use Rattle.guest_memory.proofs.Bytes.{bytes_at-nth}

@@ -1,10 +1,10 @@
-use Rattle.std.proofs.Common.{◌≡◌, ◌+◌, ◌-◌, ◌/◌, ◌≤◌, ◌<◌, ◌++◌, [], ◌∷◌, ℕ, List, suc, length, drop, refl, ap, sym, ◌∙◌, arith}
+use Rattle.std.proofs.Common.{◌≡◌, ◌+◌, ◌-◌, ◌/◌, ◌++◌, [], ◌∷◌, ℕ, List, suc, length, drop, refl, ap, sym, ◌∙◌, arith}
 use Rattle.std.proofs.lemmas.List.{get_or_read}
 use Rattle.rv64_decode.specs.Area.{Area, number_at}
 use Rattle.byteorder.specs.Endian.{little_number}
 use Rattle.rv64_decode.specs.declared.memory.Width.TheVariants.{Eight}
 use Rattle.guest_memory.specs.Layout.{end_of, nth_area, no_area}
-use Rattle.guest_memory.specs.Words.{words_from, words_in}
+use Rattle.guest_memory.specs.Words.{words_from}
 use Rattle.guest_memory.proofs.Areas.{aligned, number_at-place}
 use Rattle.guest_memory.proofs.Words.{word_place, words_turn}
 use Rattle.guest_memory.proofs.spans.push_words.Goals as goal

@@ -1,5 +1,5 @@
-use Rattle.std.proofs.Common.{◌≡◌, ◌+◌, ◌-◌, ◌≤◌, ◌<◌, ◌^◌, ℕ, List, length, take, get_or, set, ap, sym, ◌∙◌, refl, arith}
-use Rattle.std.proofs.lemmas.List.{get_or_read, get_or_default, length-take-le}
+use Rattle.std.proofs.Common.{◌≡◌, ◌≤◌, length, take, get_or, set, ap, sym, ◌∙◌, arith}
+use Rattle.std.proofs.lemmas.List.{get_or_default, length-take-le}
 use Rattle.rv64_decode.specs.Area.{Area}
 use Rattle.guest_memory.specs.Layout.{end_of, nth_area, no_area}
 use Rattle.guest_memory.proofs.Areas.{inside_holds, aligned}

@@ -1,7 +1,6 @@
-use Rattle.std.proofs.Common.{◌≡◌, ◌+◌, ◌*◌, ◌/◌, ◌≤◌, ◌<◌, length, refl, ap, sym, ◌∙◌, arith}
-use Rattle.elf_image.specs.Layout.{LieFrom as SegmentsLieFrom, load_end}
-use Rattle.guest_memory.specs.Areas.{highest_end, areas_of}
-use Rattle.guest_memory.specs.Layout.{LieFrom}
+use Rattle.std.proofs.Common.{◌≡◌, arith}
+use Rattle.elf_image.specs.Layout.{LieFrom as SegmentsLieFrom}
+use Rattle.guest_memory.specs.Areas.{areas_of}
 use Rattle.guest_memory.proofs.Loaded.{placed, highest_end-le, end-all, areas-all, areas-lie}
 use Rattle.guest_memory.proofs.start.build.Goals as goal
 

@@ -1,4 +1,4 @@
-use Rattle.std.proofs.Common.{◌≡◌, ◌+◌, ◌-◌, ◌≤◌, ◌++◌, ℕ, List, length, refl, ap, ◌∙◌, arith}
+use Rattle.std.proofs.Common.{◌≡◌, ◌+◌, ◌-◌, ◌++◌, ℕ, length, refl, ap, ◌∙◌, arith}
 use Rattle.elf_image.specs.Layout.{rounded_low, rounded_end}
 use Rattle.guest_memory.specs.Areas.{zeros}
 use Rattle.guest_memory.specs.Layout.{end_of, spliced}

@@ -1,6 +1,6 @@
-use Rattle.std.proofs.Common.{◌≡◌, ◌+◌, ◌-◌, true, refl, sym, ◌∙◌, arith}
+use Rattle.std.proofs.Common.{◌≡◌, ◌+◌, ◌-◌, refl, sym, ◌∙◌, arith}
 use Rattle.rv64_decode.specs.Area.{readable_of}
-use Rattle.guest_memory.specs.Spans.{permits, all_permitted}
+use Rattle.guest_memory.specs.Spans.{all_permitted}
 use Rattle.guest_memory.proofs.Bytes.{permits-each, all_permitted-rest}
 use Rattle.guest_memory.proofs.memory.Memory.can_read.Goals as goal
 
