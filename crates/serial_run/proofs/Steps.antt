@@ -1,21 +1,22 @@
 -- Laws of the serial run.
 use Rattle.std.proofs.Common.{◌≡◌, ℕ, zero, suc, ◌+◌, ◌-◌, ◌<◌, ◌≤◌, refl, ap, sym, ◌∙◌, subst, arith, true, false, Bool, Option, Some, None, List, ◌++◌, [], inl, inr, ◌⊎◌}
 use Rattle.std.specs.Prelude.{IsSome, IsNone, is_some}
-use Rattle.serial_run.specs.Serial.{State, ended, step, serial, executed_of, unless_ended, IsEnding}
+use Rattle.serial_run.specs.Serial.{State, state_of, ended, step, serial, executed_of, unless_ended, IsEnding}
 use Rattle.serial_run.specs.declared.machine.End.{End}
+use Rattle.serial_run.specs.declared.machine.Machine.{Machine}
 
 ended_step : (e : Option End) (s t : State) → is_some e ≡ true → unless_ended e s t ≡ s
 ended_step None s t h = cc
 ended_step (Some e) s t h = refl
 
 -- a state with an ending stays as it is
-pub step-ended : (s : State) → is_some (ended s) ≡ true → step s ≡ s
+pub step_of_ended : (s : State) → is_some (ended s) ≡ true → step s ≡ s
 unfolding step
-step-ended s h = ended_step (ended s) s _ h
+step_of_ended s h = ended_step (ended s) s _ h
 
 pub serial-ended : (n : ℕ) (s : State) → is_some (ended s) ≡ true → serial n s ≡ s
 serial-ended zero s h = refl
-serial-ended (suc n) s h = rw (step-ended s h) (serial-ended n s h)
+serial-ended (suc n) s h = rw (step_of_ended s h) (serial-ended n s h)
 
 -- one instruction of those that are left
 pub one_less : (n k : ℕ) (s : State) → k < n → serial (n - k) s ≡ serial (n - (k + 1)) (step s)
@@ -42,7 +43,7 @@ executed_step : (fuel : ℕ) (s : State) (b : Bool) → is_some (ended s) ≡ b
     → (IsSome (ended (serial fuel (step s))) → IsEnding (step s) (executed_of fuel (step s)) (serial fuel (step s)))
     → IsSome (ended (serial (suc fuel) s)) → IsEnding s (executed_of (suc fuel) s) (serial (suc fuel) s)
 executed_step fuel s true e later h =
-    let same : serial fuel (step s) ≡ s = ap (λ (t : State). serial fuel t) (step-ended s e) ∙ serial-ended fuel s e in
+    let same : serial fuel (step s) ≡ s = ap (λ (t : State). serial fuel t) (step_of_ended s e) ∙ serial-ended fuel s e in
     rw e (record { reached = sym same; at_end = h; first = λ k l. absurd (omega arith) })
 executed_step fuel s false e later h =
     let rest = later h in
@@ -81,3 +82,7 @@ pub ending-executed : (s t : State) (n fuel : ℕ) → IsEnding s n t → n ≤ 
 ending-executed s t n fuel i l =
     let at : is_some (ended (serial n s)) ≡ true = ap (λ (v : State). is_some (ended v)) i.reached ∙ i.at_end in
     executed_first n fuel s l at i.first
+
+-- a state of these parts
+pub same_state : (s : State) (m : Machine) → m ≡ s.machine → state_of m s.output s.rest ≡ s
+same_state s m e = ap (λ (v : Machine). state_of v s.output s.rest) e

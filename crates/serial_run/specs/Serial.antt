@@ -27,6 +27,9 @@ pub record State : Type 0 where
   pub output : List ℕ
   pub rest : List ℕ
 
+abbrev pub state_of : Machine → List ℕ → List ℕ → State
+state_of machine output rest = record { machine = machine; output = output; rest = rest }
+
 -- how the run has ended, if it has
 abbrev pub ended : State → Option End
 ended s = s.machine.ended
@@ -59,24 +62,33 @@ ended_by s end = record s { machine = record s.machine { ended = Some end } }
 abbrev pub faulted : State → Fault → ℕ → State
 faulted s kind addr = ended_by s (Faulted kind s.machine.pc addr)
 
--- the state behind a call, or its ending
-abbrev pub after_call : State → Called → Going → State
-after_call s c On =
+-- after a call the run goes on behind it, or ends there
+abbrev pub pc_after : ℕ → Going → ℕ
+pc_after pc On = next_pc pc
+pc_after pc (Exit code) = pc
+
+abbrev pub end_after : Going → Option End
+end_after On = None
+end_after (Exit code) = Some (Exited code)
+
+-- the state that a call leaves
+abbrev pub answered : State → Called → State
+answered s c =
     record {
-      machine = record { pc = next_pc s.machine.pc; regs = c.regs; memory = c.memory; brk = c.brk; ended = None };
+      machine = record { pc = pc_after s.machine.pc c.going; regs = c.regs; memory = c.memory; brk = c.brk; ended = end_after c.going };
       output = s.output ++ c.written;
       rest = c.rest;
     }
-after_call s c (Exit code) = ended_by s (Exited code)
 
-abbrev pub answered : State → Called → State
-answered s c = after_call s c c.going
+-- the state with the registers and the memory that an instruction leaves
+abbrev pub left_with : State → List ℕ → List Area → State
+left_with s regs m = record s { machine = record s.machine { regs = regs; memory = m } }
 
--- where the instruction leads, with the registers and the memory that it leaves
-abbrev pub led : State → Next → List ℕ → List Area → State
-led s (At pc) regs m = record s { machine = record s.machine { pc = pc; regs = regs; memory = m } }
-led s Call regs m = answered s (called s.machine.regs s.machine.memory s.machine.brk s.rest)
-led s (Faulting kind addr) regs m = faulted s kind addr
+-- where it leads from there
+abbrev pub led : State → Next → State
+led s (At pc) = record s { machine = record s.machine { pc = pc } }
+led s Call = answered s (called s.machine.regs s.machine.memory s.machine.brk s.rest)
+led s (Faulting kind addr) = faulted s kind addr
 
 -- the word at pc is executed; one that stands for no instruction is a fault at itself
 abbrev pub executed : State → ℕ → Option Instr → State
@@ -84,7 +96,7 @@ executed s word None = faulted s Illegal word
 executed s word (Some i) =
     let m = s.machine in
     let o = outcome i m.pc m.regs m.memory in
-    led s o.next o.regs (after m.memory (asks i m.regs))
+    led (left_with s o.regs (after m.memory (asks i m.regs))) o.next
 
 -- the word at pc, or a fault where pc lies in no executable area
 abbrev pub fetched : State → Result ℕ MemFault → State
