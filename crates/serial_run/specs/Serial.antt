@@ -90,13 +90,17 @@ led s (At pc) = record s { machine = record s.machine { pc = pc } }
 led s Call = answered s (called s.machine.regs s.machine.memory s.machine.brk s.rest)
 led s (Faulting kind addr) = faulted s kind addr
 
--- the word at pc is executed; one that stands for no instruction is a fault at itself
-abbrev pub executed : State → ℕ → Option Instr → State
-executed s word None = faulted s Illegal word
-executed s word (Some i) =
+-- an instruction is executed at pc
+abbrev pub performed : State → Instr → State
+performed s i =
     let m = s.machine in
     let o = outcome i m.pc m.regs m.memory in
     led (left_with s o.regs (after m.memory (asks i m.regs))) o.next
+
+-- the word at pc is; one that stands for no instruction is a fault at itself
+abbrev pub executed : State → ℕ → Option Instr → State
+executed s word None = faulted s Illegal word
+executed s word (Some i) = performed s i
 
 -- the word at pc, or a fault where pc lies in no executable area
 abbrev pub fetched : State → Result ℕ MemFault → State

@@ -1,9 +1,9 @@
-ghost use Rattle.std.specs.Prelude.{◌≡◌, ◌≢◌, ◌+◌, ◌-◌, ◌%◌, ◌<◌, ◌≤◌, ◌++◌, ◌⊎◌, ℕ, false, List, Some, None, IfOk, take};
+ghost use Rattle.std.specs.Prelude.{◌≡◌, ◌≢◌, ◌+◌, ◌-◌, ◌%◌, ◌<◌, ◌≤◌, ◌++◌, ◌⊎◌, ℕ, false, List, Some, None, IfOk, IsSome, IsNone, unwrap_or, true};
 ghost use Rattle.elf_image.specs.Layout.{IsLoadable};
 ghost use Rattle.outside_ports.specs.Ports.{Rose};
 ghost use Rattle.guest_calls.specs.Calls.{called};
-ghost use Rattle.serial_run.specs.Serial.{State, state_of, start_machine, answered, step, serial};
-ghost use Rattle.serial_run.specs.Ports.{is_port_fault};
+ghost use Rattle.serial_run.specs.Serial.{State, state_of, start_machine, answered, performed, step, serial, executed_of};
+ghost use Rattle.serial_run.specs.Ports.{is_port_fault, IsPrefixOf};
 
 use crate::machine::{End, Machine};
 use elf_image::Elf;
@@ -45,6 +45,7 @@ fn answer_call<I: Source, O: Sink>(m: &mut Machine, input: &mut I, out: &mut O)
     ensures machine { (xs ys : List ℕ) → I.rest input.old ≡ Some xs → is_port_fault m.new.ended ≡ false → m.new ≡ (answered (state_of m.old ys xs) (called m.old.regs m.old.memory m.old.brk xs)).machine }
     ensures rest { (xs : List ℕ) → I.rest input.old ≡ Some xs → is_port_fault m.new.ended ≡ false → I.rest input.new ≡ Some (called m.old.regs m.old.memory m.old.brk xs).rest }
     ensures output { (xs ys : List ℕ) → I.rest input.old ≡ Some xs → is_port_fault m.new.ended ≡ false → O.written out.old ≡ Some ys → O.written out.new ≡ Some (answered (state_of m.old ys xs) (called m.old.regs m.old.memory m.old.brk xs)).output }
+    ensures prefix { (xs ys : List ℕ) → is_port_fault m.new.ended ≡ true → O.written out.old ≡ Some ys → IsPrefixOf (O.written out.new) (ys ++ (called m.old.regs m.old.memory m.old.brk xs).written) }
     ensures read_fault { m.new.ended ≡ Some End.ReadFault → Rose (I.faults input.old) (I.faults input.new) }
     ensures write_fault { m.new.ended ≡ Some End.WriteFault → Rose (O.faults out.old) (O.faults out.new) }
     ensures input_never_falls { I.faults input.old ≤ I.faults input.new }
@@ -58,6 +59,26 @@ fn answer_call<I: Source, O: Sink>(m: &mut Machine, input: &mut I, out: &mut O)
     }
 }
 
+// Executes an instruction that stands at pc.
+fn perform<I: Source, O: Sink>(m: &mut Machine, i: Instr, input: &mut I, out: &mut O)
+    requires { m.old.ended ≡ None }
+    ensures machine { (xs ys : List ℕ) → I.rest input.old ≡ Some xs → is_port_fault m.new.ended ≡ false → m.new ≡ (performed (state_of m.old ys xs) i).machine }
+    ensures rest { (xs ys : List ℕ) → I.rest input.old ≡ Some xs → is_port_fault m.new.ended ≡ false → I.rest input.new ≡ Some (performed (state_of m.old ys xs) i).rest }
+    ensures output { (xs ys : List ℕ) → I.rest input.old ≡ Some xs → is_port_fault m.new.ended ≡ false → O.written out.old ≡ Some ys → O.written out.new ≡ Some (performed (state_of m.old ys xs) i).output }
+    ensures prefix { (xs ys : List ℕ) → is_port_fault m.new.ended ≡ true → O.written out.old ≡ Some ys → IsPrefixOf (O.written out.new) (performed (state_of m.old ys xs) i).output }
+    ensures read_fault { m.new.ended ≡ Some End.ReadFault → Rose (I.faults input.old) (I.faults input.new) }
+    ensures write_fault { m.new.ended ≡ Some End.WriteFault → Rose (O.faults out.old) (O.faults out.new) }
+    ensures input_never_falls { I.faults input.old ≤ I.faults input.new }
+    ensures output_never_falls { O.faults out.old ≤ O.faults out.new }
+{
+    let pc = m.pc;
+    match exec(i, pc, &mut m.regs, &mut m.memory) {
+        Next::At(next) => m.pc = next,
+        Next::Call => answer_call(m, input, out),
+        Next::Fault { kind, addr } => m.ended = Some(End::Faulted { kind, pc, addr }),
+    }
+}
+
 // Executes one instruction of a machine that has no ending.
 #[tactic(auto, unfolding(crate::specs::Serial::step))]
 fn advance<I: Source, O: Sink>(m: &mut Machine, input: &mut I, out: &mut O)
@@ -65,6 +86,7 @@ fn advance<I: Source, O: Sink>(m: &mut Machine, input: &mut I, out: &mut O)
     ensures machine { (xs ys : List ℕ) → I.rest input.old ≡ Some xs → is_port_fault m.new.ended ≡ false → m.new ≡ (step (state_of m.old ys xs)).machine }
     ensures rest { (xs ys : List ℕ) → I.rest input.old ≡ Some xs → is_port_fault m.new.ended ≡ false → I.rest input.new ≡ Some (step (state_of m.old ys xs)).rest }
     ensures output { (xs ys : List ℕ) → I.rest input.old ≡ Some xs → is_port_fault m.new.ended ≡ false → O.written out.old ≡ Some ys → O.written out.new ≡ Some (step (state_of m.old ys xs)).output }
+    ensures prefix { (xs ys : List ℕ) → is_port_fault m.new.ended ≡ true → O.written out.old ≡ Some ys → IsPrefixOf (O.written out.new) (step (state_of m.old ys xs)).output }
     ensures read_fault { m.new.ended ≡ Some End.ReadFault → Rose (I.faults input.old) (I.faults input.new) }
     ensures write_fault { m.new.ended ≡ Some End.WriteFault → Rose (O.faults out.old) (O.faults out.new) }
     ensures input_never_falls { I.faults input.old ≤ I.faults input.new }
@@ -75,11 +97,7 @@ fn advance<I: Source, O: Sink>(m: &mut Machine, input: &mut I, out: &mut O)
         Err(_) => m.ended = Some(End::Faulted { kind: Fault::Fetch, pc, addr: pc }),
         Ok(word) => match decode(word) {
             None => m.ended = Some(End::Faulted { kind: Fault::Illegal, pc, addr: word as u64 }),
-            Some(i) => match exec(i, pc, &mut m.regs, &mut m.memory) {
-                Next::At(next) => m.pc = next,
-                Next::Call => answer_call(m, input, out),
-                Next::Fault { kind, addr } => m.ended = Some(End::Faulted { kind, pc, addr }),
-            },
+            Some(i) => perform(m, i, input, out),
         },
     }
 }
@@ -93,14 +111,55 @@ pub fn step_serial<I: Source, O: Sink>(m: &mut Machine, input: &mut I, out: &mut
     ensures machine { (s : State) → m.old ≡ s.machine → I.rest input.old ≡ Some s.rest → is_port_fault m.new.ended ≡ false → m.new ≡ (step s).machine }
     ensures rest { (s : State) → m.old ≡ s.machine → I.rest input.old ≡ Some s.rest → is_port_fault m.new.ended ≡ false → I.rest input.new ≡ Some (step s).rest }
     ensures output { (s : State) → m.old ≡ s.machine → I.rest input.old ≡ Some s.rest → is_port_fault m.new.ended ≡ false → O.written out.old ≡ Some s.output → O.written out.new ≡ Some (step s).output }
+    ensures prefix { (s : State) → m.old ≡ s.machine → IsNone m.old.ended → is_port_fault m.new.ended ≡ true → O.written out.old ≡ Some s.output → IsPrefixOf (O.written out.new) (step s).output }
+
+    ensures stays { IsSome m.old.ended → m.new ≡ m.old }
+    ensures input_stays { IsSome m.old.ended → input.new ≡ input.old }
+    ensures output_stays { IsSome m.old.ended → out.new ≡ out.old }
+    ensures read_fault { m.new.ended ≡ Some End.ReadFault → (m.old.ended ≡ Some End.ReadFault) ⊎ Rose (I.faults input.old) (I.faults input.new) }
+    ensures write_fault { m.new.ended ≡ Some End.WriteFault → (m.old.ended ≡ Some End.WriteFault) ⊎ Rose (O.faults out.old) (O.faults out.new) }
+    ensures input_never_falls { I.faults input.old ≤ I.faults input.new }
+    ensures output_never_falls { O.faults out.old ≤ O.faults out.new }
+{
+    if m.ended.is_some() {
+        return m.ended;
+    }
+    advance(m, input, out);
+    m.ended
+}
+
+/// How a run ended, and after how many instructions.
+#[derive(Clone, Copy, PartialEq, Eq, Debug)]
+pub struct Ran {
+    pub end: End,
+    /// The instructions that were executed; one that ended the run is among them.
+    pub steps: u64,
+}
+
+/// Executes instructions until the run ends, but at most `fuel` of them, and counts them.
+pub fn run_counted<I: Source, O: Sink>(m: &mut Machine, fuel: u64, input: &mut I, out: &mut O) -> Ran
+    ensures end { result.end ≡ unwrap_or m.new.ended End.Spent }
+    ensures steps { (s : State) → m.old ≡ s.machine → I.rest input.old ≡ Some s.rest → is_port_fault m.new.ended ≡ false → result.steps ≡ executed_of fuel s }
+    ensures machine { (s : State) → m.old ≡ s.machine → I.rest input.old ≡ Some s.rest → is_port_fault m.new.ended ≡ false → m.new ≡ (serial fuel s).machine }
+    ensures rest { (s : State) → m.old ≡ s.machine → I.rest input.old ≡ Some s.rest → is_port_fault m.new.ended ≡ false → I.rest input.new ≡ Some (serial fuel s).rest }
+    ensures output { (s : State) → m.old ≡ s.machine → I.rest input.old ≡ Some s.rest → is_port_fault m.new.ended ≡ false → O.written out.old ≡ Some s.output → O.written out.new ≡ Some (serial fuel s).output }
+    ensures prefix { (s : State) → m.old ≡ s.machine → I.rest input.old ≡ Some s.rest → IsNone m.old.ended → is_port_fault m.new.ended ≡ true → O.written out.old ≡ Some s.output → IsPrefixOf (O.written out.new) (serial fuel s).output }
 
     ensures read_fault { m.new.ended ≡ Some End.ReadFault → (m.old.ended ≡ Some End.ReadFault) ⊎ Rose (I.faults input.old) (I.faults input.new) }
     ensures write_fault { m.new.ended ≡ Some End.WriteFault → (m.old.ended ≡ Some End.WriteFault) ⊎ Rose (O.faults out.old) (O.faults out.new) }
     ensures input_never_falls { I.faults input.old ≤ I.faults input.new }
     ensures output_never_falls { O.faults out.old ≤ O.faults out.new }
 {
-    if m.ended.is_none() {
-        advance(m, input, out);
+    if let Some(end) = m.ended {
+        return Ran { end, steps: 0 };
     }
-    m.ended
+    for k in 0..fuel {
+        if let Some(end) = step_serial(m, input, out) {
+            return Ran { end, steps: k + 1 };
+        }
+    }
+    Ran {
+        end: End::Spent,
+        steps: fuel,
+    }
 }
