@@ -1,5 +1,5 @@
 -- What an instruction does, in two halves: what it asks of memory, and what becomes of pc and registers.
-use Rattle.std.specs.Prelude.{ℕ, ◌≡◌, ◌==◌, not, ◌+◌, ◌-◌, ◌*◌, ◌/◌, ◌%◌, ◌^◌, if◌then◌else◌, nat_lt, Bool, true, false, List, Result, Ok, Err, ℤ, pos, ◌*ℤ◌, bit_xor, bit_and, bit_or, int_lt}
+use Rattle.std.specs.Prelude.{ℕ, ◌==◌, not, ◌+◌, ◌-◌, ◌*◌, ◌/◌, ◌%◌, ◌^◌, if◌then◌else◌, nat_lt, Bool, List, Result, Ok, Err, ℤ, pos, ◌*ℤ◌, bit_xor, bit_and, bit_or, int_lt}
 use Rattle.std.specs.Int.{w8, w16, w32, w64, w128, cast_unsigned, cast_signed, int_shr}
 use Rattle.std.specs.Int.RustNames.{int_div, int_rem}
 use Rattle.rv64_decode.specs.Area.{Area}

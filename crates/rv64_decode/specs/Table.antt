@@ -1,5 +1,5 @@
 -- The table of instructions.
-use Rattle.std.specs.Prelude.{ℕ, ◌≡◌, ◌==◌, ◌+◌, ◌*◌, ◌/◌, ◌%◌, ◌^◌, if◌then◌else◌, Bool, true, false, ◌&&◌, Option, Some, None, ℤ, pos}
+use Rattle.std.specs.Prelude.{ℕ, ◌≡◌, ◌==◌, ◌/◌, ◌%◌, ◌^◌, if◌then◌else◌, ◌&&◌, Option, Some, None, ℤ, pos}
 use Rattle.rv64_decode.specs.Fields.{opcode, rd_of, funct3, rs1_of, rs2_of, funct7, imm_i, imm_s, imm_b, imm_u, imm_j}
 use Rattle.rv64_decode.specs.declared.instr.AluOp.{AluOp}
 use Rattle.rv64_decode.specs.declared.instr.AluOp.TheVariants.{Add, Sll, Slt, Sltu, Xor, Srl, Or, And, Sub, Sra, Mul, Mulh, Mulhsu, Mulhu, Div, Divu, Rem, Remu, Addw, Sllw, Srlw, Subw, Sraw, Mulw, Divw, Divuw, Remw, Remuw}

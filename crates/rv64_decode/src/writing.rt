@@ -1,7 +1,7 @@
-ghost use Rattle.std.specs.Prelude.{◌≡◌, ◌↔◌, ◌+◌, ◌*◌, ◌/◌, ◌%◌, ◌<◌, ◌≤◌, ◌^◌, ℕ, Some, ◌≤ℤ◌, pos, negsuc, IsTrue, IsSome};
+ghost use Rattle.std.specs.Prelude.{◌≡◌, ◌↔◌, ◌+◌, ◌*◌, ◌/◌, ◌%◌, ◌<◌, ◌≤◌, ◌^◌, ℕ, Some, ◌≤ℤ◌, pos, negsuc, IsTrue, IsSome, IfSome};
 ghost use Rattle.std.specs.Int.{w32, cast_unsigned};
 ghost use Rattle.rv64_decode.specs.Fields.{opcode, rd_of, funct3, rs1_of, rs2_of, funct7, imm_i, imm_s, imm_b, imm_u, imm_j};
-ghost use Rattle.rv64_decode.specs.Table.{Means, IsAlu, IsImm, IsLoad, IsStore, IsBranch, IsUpper, IsR, IsOp, funct6, amount64};
+ghost use Rattle.rv64_decode.specs.Table.{Means, decoded, IsAlu, IsImm, IsLoad, IsStore, IsBranch, IsUpper, IsR, IsOp, funct6, amount64};
 ghost use Rattle.rv64_decode.specs.Form.{Twelve, Amount, InForm};
 
 use crate::instr::{AluOp, BranchOp, ImmOp, Instr, LoadOp, StoreOp, UpperOp};
@@ -322,9 +322,7 @@ fn encode_jal(rd: Reg, imm: i32) -> Option<u32>
     Some(j_word(0x6F, rd, imm))
 }
 
-/// The word that stands for an instruction; `None` exactly where an immediate is outside its form
-/// (RISC-V unprivileged manual, "RV32I, RV64I Base Integer Instruction Set" and "M Extension").
-pub fn encode(i: Instr) -> Option<u32>
+fn word_of(i: Instr) -> Option<u32>
     ensures words { (w : ℕ) → w < 2 ^ 32 → (result ≡ Some w) ↔ Means w i }
     ensures form { IsSome result ↔ InForm i }
 {
@@ -341,4 +339,15 @@ pub fn encode(i: Instr) -> Option<u32>
         Instr::Ecall => Some(0x73),
         Instr::Ebreak => Some(0x10_0073),
     }
+}
+
+/// The word that stands for an instruction; `None` exactly where an immediate is outside its form
+/// (RISC-V unprivileged manual, "RV32/64G Instruction Set Listings").
+#[tactic(auto, using(crate::proofs::Decodes::means_decoded))]
+pub fn encode(i: Instr) -> Option<u32>
+    ensures words { (w : ℕ) → w < 2 ^ 32 → (result ≡ Some w) ↔ Means w i }
+    ensures form { IsSome result ↔ InForm i }
+    ensures decodes { IfSome result (λ w. decoded w ≡ Some i) }
+{
+    word_of(i)
 }
