@@ -1,4 +1,4 @@
-use Rattle.std.proofs.Common.{◌≡◌, ℕ, ◌^◌, ◌<◌, ◌≤◌, w64, ℤ, pos, negsuc, ◌*ℤ◌, FitsSigned, to_z, of_z, arith, refl, unsigned_abs}
+use Rattle.std.proofs.Common.{◌≡◌, ℕ, ◌^◌, ◌≤◌, w64, ℤ, pos, negsuc, ◌*ℤ◌, FitsSigned, to_z, of_z, arith, refl, unsigned_abs}
 use Rattle.std.proofs.lemmas.Int.{to_z-of_z, fits_signed_mul}
 use Rattle.std.specs.Int.{w128}
 use Rattle.rv64_meaning.proofs.high_product.Goals as goal
