@@ -1,3 +1,7 @@
+ghost use Rattle.std.specs.Prelude.{◌≡◌};
+ghost use Rattle.rv64_decode.specs.Row.{load_width, store_width};
+
+use crate::memory::Width;
 use crate::registers::Reg;
 
 /// An operation on two registers: the form R of the RISC-V unprivileged manual, chapters "RV32I" and
@@ -85,6 +89,20 @@ pub enum LoadOp {
     Ld,
 }
 
+impl LoadOp {
+    /// How many bytes it reads.
+    pub fn width(self) -> Width
+        ensures { result ≡ load_width self }
+    {
+        match self {
+            LoadOp::Lb | LoadOp::Lbu => Width::One,
+            LoadOp::Lh | LoadOp::Lhu => Width::Two,
+            LoadOp::Lw | LoadOp::Lwu => Width::Four,
+            LoadOp::Ld => Width::Eight,
+        }
+    }
+}
+
 /// A store, by how many bytes it writes: "Load and Store Instructions" of RV32I and RV64I.
 #[derive(Clone, Copy, PartialEq, Eq, Debug)]
 pub enum StoreOp {
@@ -92,6 +110,20 @@ pub enum StoreOp {
     Sh,
     Sw,
     Sd,
+}
+
+impl StoreOp {
+    /// How many bytes it writes.
+    pub fn width(self) -> Width
+        ensures { result ≡ store_width self }
+    {
+        match self {
+            StoreOp::Sb => Width::One,
+            StoreOp::Sh => Width::Two,
+            StoreOp::Sw => Width::Four,
+            StoreOp::Sd => Width::Eight,
+        }
+    }
 }
 
 /// A comparison of two whole registers: "Conditional Branches" of RV32I.
