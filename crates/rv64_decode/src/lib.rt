@@ -12,6 +12,8 @@ pub mod memory;
 pub mod outcome;
 pub mod reading;
 pub mod registers;
+#[cfg(test)]
+mod tests;
 pub mod writing;
 
 pub use instr::{AluOp, BranchOp, ImmOp, Instr, LoadOp, StoreOp, UpperOp};
