@@ -3,6 +3,8 @@
 
 mod arithmetic;
 mod execution;
+#[cfg(test)]
+mod tests;
 
 pub use execution::exec;
 pub use rv64_decode::{Fault, Next};
