@@ -1,8 +1,9 @@
 -- The rows of the table.
-use Rattle.std.proofs.Common.{ℕ, ◌≡◌, ◌==◌, ◌^◌, ◌/◌, ◌%◌, Option, Some, None, arith, refl, true, false}
+use Rattle.std.proofs.Common.{ℕ, ◌≡◌, Some, arith}
 use Rattle.std.proofs.lemmas.Bool.Decides.{nat_tests}
-use Rattle.rv64_decode.specs.Fields.{opcode, funct3, funct7}
-use Rattle.rv64_decode.specs.Table.{IsAlu, IsImm, alu_by, alu_w_by, imm_by, imm_w_by, funct6}
+use Rattle.rv64_decode.specs.Fields.{opcode, funct3, funct6, funct7}
+use Rattle.rv64_decode.specs.Table.{IsAlu, IsImm}
+use Rattle.rv64_decode.specs.Operations.{alu_by, alu_w_by, imm_by, imm_w_by}
 use Rattle.rv64_decode.specs.declared.instr.AluOp.{AluOp}
 use Rattle.rv64_decode.specs.declared.instr.ImmOp.{ImmOp}
 

@@ -1,11 +1,13 @@
--- Guest memory: a list of areas, and what is at an address.
+-- A memory: a list of areas, what is at an address, and the answers to loads, stores and fetches. Bytes
+-- of one access are in little-endian order ("RV32I Base Integer Instruction Set", "Load and Store
+-- Instructions").
 use Rattle.std.specs.Prelude.{ℕ, zero, suc, ◌+◌, ◌-◌, ◌*◌, ◌/◌, ◌%◌, ◌==◌, Bool, ◌&&◌, nat_le, nat_lt, if◌then◌else◌, List, [], ◌∷◌, length, slice_index, slice_set, Option, Some, None, Result, Ok, Err}
 use Rattle.rv64_decode.specs.declared.memory.Width.{Width}
 use Rattle.rv64_decode.specs.declared.memory.Width.TheVariants.{One, Two, Four, Eight}
 use Rattle.rv64_decode.specs.declared.memory.MemFault.{MemFault}
 use Rattle.rv64_decode.specs.declared.memory.MemFault.TheVariants.{Misaligned, Unmapped, Denied}
 
--- bytes from `low` on, and what may be done with them
+-- bytes that stand in a row from `low` on, and what may be done with them
 pub record Area : Type 0 where
   pub low : ℕ
   pub readable : Bool
@@ -50,6 +52,7 @@ bytes_of Two = 2
 bytes_of Four = 4
 bytes_of Eight = 8
 
+-- why an aligned access is refused, given the area in which its address lies
 abbrev pub why_in : (Area → Bool) → Option Area → Option MemFault
 why_in permission None = Some Unmapped
 why_in permission (Some a) = if permission a then None else Some Denied
@@ -59,19 +62,24 @@ abbrev pub why : (Area → Bool) → List Area → ℕ → Width → Option MemF
 why permission m addr width =
     if addr % bytes_of width == 0 then why_in permission (area_at m addr) else Some Misaligned
 
+-- loads want this
 abbrev pub readable_of : Area → Bool
 readable_of a = a.readable
 
+-- stores want this
 abbrev pub writable_of : Area → Bool
 writable_of a = a.writable
 
+-- fetches want this
 abbrev pub executable_of : Area → Bool
 executable_of a = a.executable
 
+-- the refusal, or else this answer
 abbrev pub or_refusal : {A : Type 0} → Option MemFault → A → Result A MemFault
 or_refusal None x = Ok x
 or_refusal (Some fault) x = Err fault
 
+-- the first memory where the access is refused, and else the second
 abbrev pub unless_refused : Option MemFault → List Area → List Area → List Area
 unless_refused None m n = n
 unless_refused (Some fault) m n = m

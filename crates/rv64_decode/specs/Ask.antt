@@ -1,14 +1,16 @@
--- What an instruction asks of memory, and what memory answers.
+-- What an instruction asks of memory, one access at most, and what memory answers.
 use Rattle.std.specs.Prelude.{ℕ, List, Result, Ok, Err}
 use Rattle.rv64_decode.specs.declared.memory.Width.{Width}
 use Rattle.rv64_decode.specs.declared.memory.MemFault.{MemFault}
 use Rattle.rv64_decode.specs.Area.{Area, load_of, store_of, after_store}
 
+-- no access; so many bytes at an address; these bytes set to the low bytes of a value
 pub data Ask : Type 0 where
   Nothing : Ask
   Loads : (addr : ℕ) (width : Width) → Ask
   Stores : (addr : ℕ) (width : Width) (value : ℕ) → Ask
 
+-- the answer to a store, as that to a load of 0
 abbrev pub without_number : Result (Unit {0}) MemFault → Result ℕ MemFault
 without_number (Ok _) = Ok 0
 without_number (Err fault) = Err fault

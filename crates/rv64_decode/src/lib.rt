@@ -1,5 +1,10 @@
-// Instructions of RV64IM as words: what a word stands for, the word of an instruction, and what
-// an instruction asks of registers and memory.
+//! Instructions of RV64IM (RISC-V unprivileged manual, RV64I and M) as words: which instruction a word
+//! stands for, and the word of an instruction. Beside them stand what an instruction works on, the
+//! registers and the memory behind [`Words`], and where it leads, [`Next`].
+//!
+//! `specs/` has what one instruction does: the table of words, and what each row asks of memory and
+//! makes of the program counter and the registers. FENCE.I ("Zifencei"), the CSR instructions and
+//! every other extension are outside the table.
 #![tactic(auto)]
 
 pub mod instr;
@@ -7,6 +12,8 @@ pub mod memory;
 pub mod outcome;
 pub mod reading;
 pub mod registers;
+#[cfg(test)]
+mod tests;
 pub mod writing;
 
 pub use instr::{AluOp, BranchOp, ImmOp, Instr, LoadOp, StoreOp, UpperOp};

@@ -10,7 +10,8 @@ pub enum Fault {
     Illegal,
     /// `ebreak`.
     Break,
-    /// A taken jump or branch to an address that is no multiple of 4.
+    /// A jump or a taken branch to an address that is no multiple of 4 (the manual's
+    /// instruction-address-misaligned exception).
     Target,
     /// A load was refused.
     Load(MemFault),
@@ -23,8 +24,10 @@ pub enum Fault {
 pub enum Next {
     /// The run goes on at this address.
     At(u64),
-    /// `ecall`: the environment answers.
+    /// `ecall`: the environment answers, and the run goes on after it.
     Call,
-    /// The instruction faulted; `addr` is the address that was refused, or the target of the jump.
+    /// The run stops here. `addr` is the target of a jump, the address of a refused access, or for
+    /// any other fault what stands in the way: the program counter, or the word that is no
+    /// instruction.
     Fault { kind: Fault, addr: u64 },
 }

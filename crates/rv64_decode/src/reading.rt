@@ -1,6 +1,8 @@
-ghost use Rattle.std.specs.Prelude.{◌≡◌, ◌↔◌, ◌+◌, ◌-◌, ◌*◌, ◌/◌, ◌%◌, ◌<◌, ◌≤◌, ◌^◌, ℕ, Some};
+ghost use Rattle.std.specs.Prelude.{◌≡◌, ◌↔◌, ◌+◌, ◌-◌, ◌*◌, ◌/◌, ◌%◌, ◌<◌, ◌≤◌, ◌^◌, ℕ, Some, IfSome};
 ghost use Rattle.rv64_decode.specs.Fields.{signed_by, opcode, rd_of, funct3, rs1_of, rs2_of, funct7, imm_i, imm_s, imm_b, imm_u, imm_j};
-ghost use Rattle.rv64_decode.specs.Table.{Means, decoded, alu_by, alu_w_by, imm_by, imm_w_by, imm_for, load_by, store_by, branch_by};
+ghost use Rattle.rv64_decode.specs.Operations.{alu_by, alu_w_by, imm_by, imm_w_by, load_by, store_by, branch_by};
+ghost use Rattle.rv64_decode.specs.Table.{Means, decoded, imm_for};
+ghost use Rattle.rv64_decode.specs.Form.{InForm};
 ghost use Rattle.rv64_decode.specs.declared.instr.Instr.{Instr};
 
 use crate::instr::{AluOp, BranchOp, ImmOp, Instr, LoadOp, StoreOp, UpperOp};
@@ -195,11 +197,14 @@ fn immediate(op: ImmOp, word: u32) -> i32
     }
 }
 
-/// The instruction that a word stands for.
+/// The instruction that a word stands for; `None` for a word outside RV64IM (RISC-V unprivileged
+/// manual, "RV32/64G Instruction Set Listings": RV32I, RV64I, RV32M and RV64M).
 #[tactic(auto, using(crate::proofs::Rows::alu33_forth, crate::proofs::Rows::alu33_back, crate::proofs::Rows::alu3b_forth, crate::proofs::Rows::alu3b_back, crate::proofs::Rows::imm13_forth, crate::proofs::Rows::imm13_back, crate::proofs::Rows::imm1b_forth, crate::proofs::Rows::imm1b_back))]
 pub fn decode(word: u32) -> Option<Instr>
     ensures table { (i : Instr) → (result ≡ Some i) ↔ Means word i }
     ensures value { result ≡ decoded word }
+    ensures means { IfSome result (λ i. Means word i) }
+    ensures form { IfSome result InForm }
 {
     let three = (word >> 12) % 8;
     match word % 128 {

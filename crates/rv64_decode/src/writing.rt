@@ -1,8 +1,8 @@
-ghost use Rattle.std.specs.Prelude.{◌≡◌, ◌↔◌, ◌+◌, ◌*◌, ◌/◌, ◌%◌, ◌<◌, ◌≤◌, ◌^◌, ℕ, Some, ◌≤ℤ◌, pos, negsuc, IsTrue, IsSome};
+ghost use Rattle.std.specs.Prelude.{◌≡◌, ◌↔◌, ◌+◌, ◌*◌, ◌/◌, ◌%◌, ◌<◌, ◌≤◌, ◌^◌, ℕ, Some, ◌≤ℤ◌, pos, negsuc, IsTrue, IsSome, IfSome};
 ghost use Rattle.std.specs.Int.{w32, cast_unsigned};
-ghost use Rattle.rv64_decode.specs.Fields.{opcode, rd_of, funct3, rs1_of, rs2_of, funct7, imm_i, imm_s, imm_b, imm_u, imm_j};
-ghost use Rattle.rv64_decode.specs.Table.{Means, IsAlu, IsImm, IsLoad, IsStore, IsBranch, IsUpper, IsR, IsOp, funct6, amount64};
-ghost use Rattle.rv64_decode.specs.Form.{Twelve, Amount, InForm};
+ghost use Rattle.rv64_decode.specs.Fields.{opcode, rd_of, funct3, rs1_of, rs2_of, funct7, amount64, imm_i, imm_s, imm_b, imm_u, imm_j};
+ghost use Rattle.rv64_decode.specs.Table.{Means, decoded, IsAlu, IsImm, IsLoad, IsStore, IsBranch, IsUpper, IsR, IsOp, IsShift};
+ghost use Rattle.rv64_decode.specs.Form.{IsSigned, IsAmount, InForm};
 
 use crate::instr::{AluOp, BranchOp, ImmOp, Instr, LoadOp, StoreOp, UpperOp};
 use crate::registers::Reg;
@@ -190,7 +190,7 @@ fn shift_word(three: u32, six: u32, rd: Reg, rs1: Reg, imm: i32) -> u32
     requires small { (three < 2 ^ 3) × (six < 2 ^ 6) }
     requires low { pos 0 ≤ℤ imm }
     requires high { imm ≤ℤ pos 63 }
-    ensures { (w : ℕ) → w < 2 ^ 32 → (w ≡ result) ↔ (((opcode w ≡ 0x13) × (funct3 w ≡ three) × (funct6 w ≡ six)) × (rd_of w ≡ rd) × (rs1_of w ≡ rs1) × (amount64 w ≡ imm)) }
+    ensures { (w : ℕ) → w < 2 ^ 32 → (w ≡ result) ↔ (IsShift three six w × (rd_of w ≡ rd) × (rs1_of w ≡ rs1) × (amount64 w ≡ imm)) }
 {
     let registers = rd.number() as u32 * 0x80 + rs1.number() as u32 * 0x8000;
     0x13 + three * 0x1000 + registers + imm as u32 * 0x10_0000 + six * 0x400_0000
@@ -205,7 +205,7 @@ fn in_twelve(imm: i32) -> bool
 fn immediate(op: u32, three: u32, rd: Reg, rs1: Reg, imm: i32) -> Option<u32>
     requires small { (op < 2 ^ 7) × (three < 2 ^ 3) }
     ensures words { (w : ℕ) → w < 2 ^ 32 → (result ≡ Some w) ↔ (IsOp op three w × (rd_of w ≡ rd) × (rs1_of w ≡ rs1) × (imm_i w ≡ imm)) }
-    ensures form { IsSome result ↔ Twelve imm }
+    ensures form { IsSome result ↔ IsSigned 12 imm }
 {
     if !in_twelve(imm) {
         return None;
@@ -215,8 +215,8 @@ fn immediate(op: u32, three: u32, rd: Reg, rs1: Reg, imm: i32) -> Option<u32>
 
 fn shift(three: u32, six: u32, rd: Reg, rs1: Reg, imm: i32) -> Option<u32>
     requires small { (three < 2 ^ 3) × (six < 2 ^ 6) }
-    ensures words { (w : ℕ) → w < 2 ^ 32 → (result ≡ Some w) ↔ (((opcode w ≡ 0x13) × (funct3 w ≡ three) × (funct6 w ≡ six)) × (rd_of w ≡ rd) × (rs1_of w ≡ rs1) × (amount64 w ≡ imm)) }
-    ensures form { IsSome result ↔ Amount 63 imm }
+    ensures words { (w : ℕ) → w < 2 ^ 32 → (result ≡ Some w) ↔ (IsShift three six w × (rd_of w ≡ rd) × (rs1_of w ≡ rs1) × (amount64 w ≡ imm)) }
+    ensures form { IsSome result ↔ IsAmount 63 imm }
 {
     if imm < 0 || imm > 63 {
         return None;
@@ -227,7 +227,7 @@ fn shift(three: u32, six: u32, rd: Reg, rs1: Reg, imm: i32) -> Option<u32>
 fn shift_w(three: u32, seven: u32, rd: Reg, rs1: Reg, imm: i32) -> Option<u32>
     requires small { (three < 2 ^ 3) × (seven < 2 ^ 7) }
     ensures words { (w : ℕ) → w < 2 ^ 32 → (result ≡ Some w) ↔ (IsR 0x1B three seven w × (rd_of w ≡ rd) × (rs1_of w ≡ rs1) × (pos (rs2_of w) ≡ imm)) }
-    ensures form { IsSome result ↔ Amount 31 imm }
+    ensures form { IsSome result ↔ IsAmount 31 imm }
 {
     if imm < 0 || imm > 31 {
         return None;
@@ -322,9 +322,7 @@ fn encode_jal(rd: Reg, imm: i32) -> Option<u32>
     Some(j_word(0x6F, rd, imm))
 }
 
-/// The word that stands for an instruction; `None` exactly where an immediate is outside its form
-/// (RISC-V unprivileged manual, "RV32I, RV64I Base Integer Instruction Set" and "M Extension").
-pub fn encode(i: Instr) -> Option<u32>
+fn word_of(i: Instr) -> Option<u32>
     ensures words { (w : ℕ) → w < 2 ^ 32 → (result ≡ Some w) ↔ Means w i }
     ensures form { IsSome result ↔ InForm i }
 {
@@ -341,4 +339,15 @@ pub fn encode(i: Instr) -> Option<u32>
         Instr::Ecall => Some(0x73),
         Instr::Ebreak => Some(0x10_0073),
     }
+}
+
+/// The word that stands for an instruction; `None` exactly where an immediate is outside its form
+/// (RISC-V unprivileged manual, "RV32/64G Instruction Set Listings").
+#[tactic(auto, using(crate::proofs::Decodes::means_decoded))]
+pub fn encode(i: Instr) -> Option<u32>
+    ensures words { (w : ℕ) → w < 2 ^ 32 → (result ≡ Some w) ↔ Means w i }
+    ensures form { IsSome result ↔ InForm i }
+    ensures decodes { IfSome result (λ w. decoded w ≡ Some i) }
+{
+    word_of(i)
 }

@@ -1,7 +1,7 @@
-use Rattle.std.proofs.Common.{◌≡◌, ℕ, ◌^◌, ◌<◌, ◌≤◌, w64, ℤ, pos, negsuc, ◌*ℤ◌, FitsSigned, to_z, of_z, arith, refl, unsigned_abs}
+use Rattle.std.proofs.Common.{◌≡◌, ℕ, ◌^◌, ◌≤◌, w64, ℤ, pos, negsuc, ◌*ℤ◌, FitsSigned, to_z, of_z, arith, refl, unsigned_abs}
 use Rattle.std.proofs.lemmas.Int.{to_z-of_z, fits_signed_mul}
 use Rattle.std.specs.Int.{w128}
-use Rattle.rv64_meaning.proofs.high_product.Goals as goal
+use Rattle.rv64_meaning.proofs.arithmetic.high_product.Goals as goal
 
 abs_le : (z : ℤ) → FitsSigned w64 z → unsigned_abs z ≤ 2 ^ 63
 abs_le (pos n) f = omega (arith, f.sfits)

@@ -1,0 +1,89 @@
+ghost use Rattle.std.specs.Prelude.{◌≡◌, ℕ, List};
+ghost use Rattle.rv64_decode.specs.Area.{Area, load_of, store_of, after_store};
+ghost use Rattle.rv64_decode.specs.Ask.{Loads, Stores, answer, after};
+ghost use Rattle.rv64_decode.specs.Registers.{with_register};
+ghost use Rattle.rv64_decode.specs.Row.{asks, outcome, jump as jump_of, next_pc};
+
+use crate::arithmetic::{alu, alu_imm, extended, shift, taken, upper};
+use rv64_decode::{Fault, Instr, Next, Reg, Regs, Words};
+
+// A taken branch.
+fn branch(target: u64) -> Next
+    ensures { (regs : List ℕ) → result ≡ (jump_of target regs regs).next }
+{
+    if target % 4 == 0 {
+        Next::At(target)
+    } else {
+        Next::Fault {
+            kind: Fault::Target,
+            addr: target,
+        }
+    }
+}
+
+// A jump, which leaves the address after it in `rd`.
+fn jump(target: u64, rd: Reg, pc: u64, regs: &mut Regs) -> Next
+    ensures next { result ≡ (jump_of target regs.old (with_register regs.old rd (next_pc pc))).next }
+    ensures registers { regs.new ≡ (jump_of target regs.old (with_register regs.old rd (next_pc pc))).regs }
+{
+    if target % 4 != 0 {
+        return Next::Fault {
+            kind: Fault::Target,
+            addr: target,
+        };
+    }
+    regs.set(rd, pc.wrapping_add(4));
+    Next::At(target)
+}
+
+/// Executes one instruction at the address `pc` (RISC-V unprivileged manual, RV64I and M).
+///
+/// Where the instruction faults, and at `ecall`, which is left to the caller, registers and memory are
+/// as they were.
+pub fn exec<W: Words>(i: Instr, pc: u64, regs: &mut Regs, mem: &mut W) -> Next
+    requires { W.allows mem.old (asks i regs.old) }
+    ensures next { result ≡ (outcome i pc regs.old (W.memory mem.old)).next }
+    ensures registers { regs.new ≡ (outcome i pc regs.old (W.memory mem.old)).regs }
+    ensures memory { W.memory mem.new ≡ after (W.memory mem.old) (asks i regs.old) }
+    ensures moves { W.moves mem.old (asks i regs.old) mem.new }
+{
+    match i {
+        Instr::Alu { op, rd, rs1, rs2 } => regs.set(rd, alu(op, regs.get(rs1), regs.get(rs2))),
+        Instr::AluImm { op, rd, rs1, imm } => regs.set(rd, alu_imm(op, regs.get(rs1), imm)),
+        Instr::Upper { op, rd, imm } => regs.set(rd, upper(op, pc, imm)),
+        Instr::Load { op, rd, rs1, imm } => {
+            let addr = shift(regs.get(rs1), imm);
+            match mem.load(addr, op.width()) {
+                Ok(n) => regs.set(rd, extended(op, n)),
+                Err(why) => return Next::Fault {
+                    kind: Fault::Load(why),
+                    addr,
+                },
+            }
+        }
+        Instr::Store { op, rs1, rs2, imm } => {
+            let addr = shift(regs.get(rs1), imm);
+            if let Err(why) = mem.store(addr, op.width(), regs.get(rs2)) {
+                return Next::Fault {
+                    kind: Fault::Store(why),
+                    addr,
+                };
+            }
+        }
+        Instr::Branch { op, rs1, rs2, imm } => if taken(op, regs.get(rs1), regs.get(rs2)) {
+            return branch(shift(pc, imm));
+        },
+        Instr::Jal { rd, imm } => return jump(shift(pc, imm), rd, pc, regs),
+        Instr::Jalr { rd, rs1, imm } => {
+            let sum = shift(regs.get(rs1), imm);
+            return jump(sum - sum % 2, rd, pc, regs);
+        }
+        Instr::Fence { .. } => {}
+        Instr::Ecall => return Next::Call,
+        Instr::Ebreak => return Next::Fault {
+            kind: Fault::Break,
+            addr: pc,
+        },
+    }
+    Next::At(pc.wrapping_add(4))
+}
