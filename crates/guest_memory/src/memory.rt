@@ -94,6 +94,7 @@ impl Memory {
     /// Whether each of the `len` bytes from an address on may be read. They may lie in several areas.
     pub fn can_read(&self, addr: u64, len: u64) -> bool
         ensures value { result ≡ all_permitted readable_of len self.now addr }
+        ensures fits { result ≡ true → addr + len < 2 ^ 64 }
         ensures each { result ≡ true → (k : ℕ) → k < len → permits readable_of self.now (addr + k) ≡ true }
         ensures rest { result ≡ true → (k : ℕ) → k ≤ len → all_permitted readable_of (len - k) self.now (addr + k) ≡ true }
     {
@@ -104,6 +105,7 @@ impl Memory {
     /// areas.
     pub fn can_write(&self, addr: u64, len: u64) -> bool
         ensures value { result ≡ all_permitted writable_of len self.now addr }
+        ensures fits { result ≡ true → addr + len < 2 ^ 64 }
         ensures each { result ≡ true → (k : ℕ) → k < len → permits writable_of self.now (addr + k) ≡ true }
         ensures rest { result ≡ true → (k : ℕ) → k ≤ len → all_permitted writable_of (len - k) self.now (addr + k) ≡ true }
     {
