@@ -5,7 +5,7 @@ use Rattle.std.proofs.Math.Seq.{take-suc-set}
 use Rattle.rv64_decode.specs.Area.{Area, holds, area_at, with_byte}
 use Rattle.guest_memory.specs.Layout.{end_of, LieFrom, no_area, nth_area, spliced}
 use Rattle.guest_memory.specs.Spans.{permits, all_permitted, bytes_at, with_bytes_at, all_bytes}
-use Rattle.guest_memory.proofs.Areas.{inside_holds, area_at-nth, byte_at-nth, with_byte-nth, rebytes, LieFrom-set, nth-set}
+use Rattle.guest_memory.proofs.Areas.{area_at-nth, byte_at-nth, with_byte-nth, rebytes, LieFrom-set, nth-set}
 
 both_left : (a b : Bool) → (a && b) ≡ true → a ≡ true
 both_left true b h = refl
@@ -207,22 +207,4 @@ length-all_bytes from (a ∷ rest) lie h =
     let e = length-all_bytes (end_of a) rest lie.4 lie.3 in
     let l = lie.0 in
     let both = length-append a.bytes (all_bytes rest) in
-    omega arith
-
-bound_step : (p : Area → Bool) (from : ℕ) (a : Area) (rest : List Area) (x : ℕ) (t : Bool) → holds a x ≡ t → LieFrom from (a ∷ rest) → (permits p rest x ≡ true → x < 2 ^ 63) → permits p (a ∷ rest) x ≡ true → x < 2 ^ 63
-bound_step p from a rest x true e lie later h =
-    let inside = inside_holds a x e in
-    let end = lie.3 in
-    omega arith
-bound_step p from a rest x false e lie later h = later (rw e at h)
-
--- no area reaches 2 ^ 63
-permits-bound : (p : Area → Bool) (from : ℕ) (m : List Area) (x : ℕ) → LieFrom from m → permits p m x ≡ true → x < 2 ^ 63
-permits-bound p from [] x lie h = cc
-permits-bound p from (a ∷ rest) x lie h = bound_step p from a rest x (holds a x) refl lie (permits-bound p (end_of a) rest x lie.4) h
-
-pub all_permitted-fits : (p : Area → Bool) (m : List Area) (n x : ℕ) → LieFrom 0 m → x < 2 ^ 64 → all_permitted p n m x ≡ true → x + n < 2 ^ 64
-all_permitted-fits p m zero x lie low h = omega arith
-all_permitted-fits p m (suc n) x lie low h =
-    let last = permits-bound p 0 m (x + n) lie (permits-each p m (suc n) n x (x + n) refl h (omega arith)) in
     omega arith

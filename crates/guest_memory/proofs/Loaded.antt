@@ -86,13 +86,12 @@ end-all segments i end h e =
     let none : highest_end (drop i segments) ≡ 0 = at_drop_all highest_end segments i h in
     omega arith
 
-pub areas-all : (elf : Elf) (segments : List Segment) (i end : ℕ) (before two three : List Area) (heap stack : Area) → segments ≡ elf.segments → length segments ≤ i
-    → before ++ segment_areas (drop i segments) ≡ segment_areas segments → max end (highest_end (drop i segments)) ≡ highest_end segments
-    → heap ≡ data_area ((end + 4095) / 4096 * 4096) heap_size → stack ≡ data_area stack_low stack_size → two ≡ before ++ heap ∷ [] → three ≡ two ++ stack ∷ []
+pub areas-all : (elf : Elf) (segments : List Segment) (i : ℕ) (before two three : List Area) (heap stack : Area) → segments ≡ elf.segments → length segments ≤ i
+    → before ++ segment_areas (drop i segments) ≡ segment_areas segments
+    → heap ≡ data_area (heap_low elf.segments) heap_size → stack ≡ data_area stack_low stack_size → two ≡ before ++ heap ∷ [] → three ≡ two ++ stack ∷ []
     → three ≡ areas_of elf
-areas-all elf segments i end before two three heap stack is h loads top low high second third =
+areas-all elf segments i before two three heap stack is h loads low high second third =
     let none : segment_areas (drop i segments) ≡ [] = at_drop_all segment_areas segments i h in
     let all : before ≡ segment_areas elf.segments = sym (append-nil before) ∙ ap (λ (v : List Area). before ++ v) (sym none) ∙ loads ∙ ap segment_areas is in
-    let end_is : end ≡ highest_end elf.segments = end-all segments i end h top ∙ ap highest_end is in
-    rw (third, second, all, low, high, end_is)
+    rw (third, second, all, low, high)
     (append_assoc (segment_areas elf.segments) (data_area (heap_low elf.segments) heap_size ∷ []) (data_area stack_low stack_size ∷ []))

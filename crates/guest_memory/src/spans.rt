@@ -13,7 +13,8 @@ use std::alloc::{AllocError, Global};
 // Whether each of the bytes allows the access, area by area.
 pub(crate) fn allows_all(areas: &[Piece], last: usize, access: Access, addr: u64, len: u64) -> bool
     requires { LieFrom 0 areas.now }
-    ensures { result ≡ all_permitted (permission_of access) len areas.now addr }
+    ensures value { result ≡ all_permitted (permission_of access) len areas.now addr }
+    ensures fits { result ≡ true → addr + len < 2 ^ 64 }
 {
     let mut at = addr;
     let mut left = len;

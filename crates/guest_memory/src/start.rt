@@ -1,6 +1,6 @@
 ghost use Rattle.std.specs.Prelude.{◌≡◌, ◌+◌, ◌<◌, ◌≤◌, ◌^◌, length, true, false, IfOk};
 ghost use Rattle.elf_image.specs.Layout.{IsLoadable, load_end, rounded_low, rounded_end};
-ghost use Rattle.guest_memory.specs.Areas.{zeros, segment_area, data_area, areas_of};
+ghost use Rattle.guest_memory.specs.Areas.{zeros, segment_area, data_area, areas_of, heap_low};
 
 use crate::lookup::search_for;
 use crate::memory::Memory;
@@ -8,7 +8,8 @@ use crate::piece::Piece;
 use elf_image::{Elf, Segment};
 use std::alloc::{AllocError, Global};
 
-const HEAP_SIZE: u64 = 16_777_216;
+/// How many bytes the heap has.
+pub const HEAP_SIZE: u64 = 16_777_216;
 
 const STACK_LOW: u64 = 0x7F00_0000;
 
@@ -23,16 +24,27 @@ pub fn build(alloc: Global, elf: &Elf) -> Result<Memory, AllocError>
 {
     let segments = elf.segments.as_slice();
     let mut areas = Vec::with_capacity(alloc, segments.len() + 2)?;
-    let mut end = 0;
     for segment in segments {
         areas.push(load_area(alloc, segment)?)?;
-        end = end.max(end_of(segment));
     }
-    let heap = (end + 4095) / 4096 * 4096;
-    areas.push(zero_area(alloc, heap, HEAP_SIZE)?)?;
+    areas.push(zero_area(alloc, heap_start(elf), HEAP_SIZE)?)?;
     areas.push(zero_area(alloc, STACK_LOW, STACK_SIZE)?)?;
     let code = search_for(areas.as_slice(), elf.entry).unwrap_or(0);
     Ok(Memory::new(areas, code))
+}
+
+/// The first address of the heap: the next multiple of 4096 behind the load segments.
+pub fn heap_start(elf: &Elf) -> u64
+    requires { IsLoadable elf.now }
+    ensures start { result ≡ heap_low elf.now.segments }
+    ensures below { result < 2 ^ 31 }
+{
+    let segments = elf.segments.as_slice();
+    let mut end = 0;
+    for segment in segments {
+        end = end.max(end_of(segment));
+    }
+    (end + 4095) / 4096 * 4096
 }
 
 // So many zero bytes.

@@ -6,8 +6,8 @@ use Rattle.guest_memory.proofs.Areas.{inside_holds}
 use Rattle.guest_memory.proofs.Bytes.{permits-nth, all_permitted-within, all_permitted-stops}
 use Rattle.guest_memory.proofs.spans.allows_all.Goals as goal
 
-pub returns-then-not-allows : goal.returns-then-not-allows
-returns-then-not-allows c =
+pub returns-then-not-allows-clause-value : goal.returns-then-not-allows-clause-value
+returns-then-not-allows-clause-value c =
     let m = c.args.areas.now in
     let i = c.in-Some.i in
     let x = c.loop-left.at in
@@ -17,7 +17,7 @@ returns-then-not-allows c =
     let inside = inside_holds (nth_area m i) x found.1 in
     let closed : p (nth_area m i) ≡ false = ap p (sym here) ∙ sym c.allows.ensures ∙ c.if-not-allows.true in
     let stops = all_permitted-stops p m c.loop-left.left x (omega arith) (permits-nth p m i x c.requires found.0 inside.0 inside.1 ∙ closed) in
-    sym (sym c.loop-left.invariant ∙ stops)
+    sym (sym c.loop-left.invariant.same ∙ stops)
 
 pub loop-left-preserved : goal.loop-left-preserved
 loop-left-preserved c =
@@ -33,4 +33,7 @@ loop-left-preserved c =
     let free : p (nth_area m i) ≡ true = ap p (sym here) ∙ sym c.allows.ensures ∙ c.if-not-allows.false in
     let end : c.end.result ≡ end_of (nth_area m i) = c.end.ensures ∙ ap end_of here in
     let within : x + n ≤ end_of (nth_area m i) = omega arith in
-    sym (all_permitted-within p m i n (left - n) left x (x + n) c.requires found.0 free inside.0 within (omega arith) refl) ∙ c.loop-left.invariant
+    record {
+      same = sym (all_permitted-within p m i n (left - n) left x (x + n) c.requires found.0 free inside.0 within (omega arith) refl) ∙ c.loop-left.invariant.same;
+      place = omega arith;
+    }

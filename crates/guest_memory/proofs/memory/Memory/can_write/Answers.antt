@@ -1,8 +1,7 @@
-use Rattle.std.proofs.Common.{◌≡◌, ◌<◌, ◌^◌, ◌+◌, ◌-◌, refl, sym, ◌∙◌, arith}
+use Rattle.std.proofs.Common.{◌≡◌, ◌+◌, ◌-◌, refl, sym, ◌∙◌, arith}
 use Rattle.rv64_decode.specs.Area.{writable_of}
-use Rattle.guest_memory.specs.Layout.{LieFrom}
 use Rattle.guest_memory.specs.Spans.{all_permitted}
-use Rattle.guest_memory.proofs.Bytes.{permits-each, all_permitted-rest, all_permitted-fits}
+use Rattle.guest_memory.proofs.Bytes.{permits-each, all_permitted-rest}
 use Rattle.guest_memory.proofs.memory.Memory.can_write.Goals as goal
 
 pub returns-clause-each : goal.returns-clause-each
@@ -18,12 +17,3 @@ returns-clause-rest c =
     let x = c.args.addr in
     let value : c.allows_all.result ≡ all_permitted writable_of c.args.len m x = cc in
     λ e k l. all_permitted-rest writable_of m k (c.args.len - k) c.args.len x (x + k) (omega arith) refl (sym value ∙ e)
-
-pub returns-clause-fits : goal.returns-clause-fits
-returns-clause-fits c =
-    let m = c.args.self.now in
-    let x = c.args.addr in
-    let value : c.allows_all.result ≡ all_permitted writable_of c.args.len m x = cc in
-    let lie : LieFrom 0 m = rw (← c.self.view_is) c.self.invariant in
-    let low : x < 2 ^ 64 = c.ranges.addr.fits in
-    λ e. all_permitted-fits writable_of m c.args.len x lie low (sym value ∙ e)
