@@ -187,3 +187,43 @@ prefix_of_all k fuel s written l p =
 pub executed_ended : (fuel : ℕ) (s : State) → is_some (ended s) ≡ true → executed_of fuel s ≡ 0
 executed_ended zero s h = refl
 executed_ended (suc fuel) s h = rw h refl
+
+-- ---- what was written before makes no difference
+
+-- the state where these bytes were written before
+abbrev pub with_before : List ℕ → State → State
+with_before before s = record s { output = before ++ s.output }
+
+led_before : (before : List ℕ) (s : State) (n : Next) → led (with_before before s) n ≡ with_before before (led s n)
+led_before before s (At pc) = refl
+led_before before s Call =
+    let c = called s.machine.regs s.machine.memory s.machine.brk s.rest in
+    ap (λ (output : List ℕ). record (led s Call) { output = output }) (append_assoc before s.output c.written)
+led_before before s (Faulting kind addr) = refl
+
+executed_before : (before : List ℕ) (s : State) (word : ℕ) (i : Option Instr) → executed (with_before before s) word i ≡ with_before before (executed s word i)
+executed_before before s word None = refl
+executed_before before s word (Some i) =
+    let m = s.machine in
+    let o = outcome i m.pc m.regs m.memory in
+    led_before before (left_with s o.regs (after m.memory (asks i m.regs))) o.next
+
+fetched_before : (before : List ℕ) (s : State) (r : Result ℕ MemFault) → fetched (with_before before s) r ≡ with_before before (fetched s r)
+fetched_before before s (Ok word) = executed_before before s word (decoded word)
+fetched_before before s (Err why) = refl
+
+unless_before : (before : List ℕ) (o : Option End) (s t : State) → unless_ended o (with_before before s) (with_before before t) ≡ with_before before (unless_ended o s t)
+unless_before before None s t = refl
+unless_before before (Some end) s t = refl
+
+step_before : (before : List ℕ) (s : State) → step (with_before before s) ≡ with_before before (step s)
+unfolding step
+step_before before s =
+    let m = s.machine in
+    let r = fetch_of m.memory m.pc in
+    ap (λ (t : State). unless_ended (ended s) (with_before before s) t) (fetched_before before s r)
+    ∙ unless_before before (ended s) s (fetched s r)
+
+pub serial_before : (n : ℕ) (before : List ℕ) (s : State) → serial n (with_before before s) ≡ with_before before (serial n s)
+serial_before zero before s = refl
+serial_before (suc n) before s = ap (λ (t : State). serial n t) (step_before before s) ∙ serial_before n before (step s)

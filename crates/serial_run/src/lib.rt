@@ -5,4 +5,4 @@ mod machine;
 mod running;
 
 pub use machine::{End, Machine};
-pub use running::start;
+pub use running::{Ran, run_counted, run_serial, start, step_serial};

@@ -136,8 +136,8 @@ pub struct Ran {
     pub steps: u64,
 }
 
-/// Executes instructions until the run ends, but at most `fuel` of them, and counts them.
-pub fn run_counted<I: Source, O: Sink>(m: &mut Machine, fuel: u64, input: &mut I, out: &mut O) -> Ran
+// Executes instructions until the run ends, but at most `fuel` of them, and counts them.
+fn count_steps<I: Source, O: Sink>(m: &mut Machine, fuel: u64, input: &mut I, out: &mut O) -> Ran
     ensures end { result.end ≡ unwrap_or m.new.ended End.Spent }
     ensures steps { (s : State) → m.old ≡ s.machine → I.rest input.old ≡ Some s.rest → is_port_fault m.new.ended ≡ false → result.steps ≡ executed_of fuel s }
     ensures machine { (s : State) → m.old ≡ s.machine → I.rest input.old ≡ Some s.rest → is_port_fault m.new.ended ≡ false → m.new ≡ (serial fuel s).machine }
@@ -162,4 +162,41 @@ pub fn run_counted<I: Source, O: Sink>(m: &mut Machine, fuel: u64, input: &mut I
         end: End::Spent,
         steps: fuel,
     }
+}
+
+/// Executes instructions until the run ends, but at most `fuel` of them, and counts them. The ending
+/// is `Spent` exactly where these have given none; the machine then has no ending. After a fault of
+/// the source or the sink nothing more is known of the machine, and a first part of the output has
+/// gone out.
+pub fn run_counted<I: Source, O: Sink>(m: &mut Machine, fuel: u64, input: &mut I, out: &mut O) -> Ran
+    ensures end { result.end ≡ unwrap_or m.new.ended End.Spent }
+    ensures steps { (s : State) → m.old ≡ s.machine → I.rest input.old ≡ Some s.rest → is_port_fault m.new.ended ≡ false → result.steps ≡ executed_of fuel s }
+    ensures machine { (s : State) → m.old ≡ s.machine → I.rest input.old ≡ Some s.rest → is_port_fault m.new.ended ≡ false → m.new ≡ (serial fuel s).machine }
+    ensures rest { (s : State) → m.old ≡ s.machine → I.rest input.old ≡ Some s.rest → is_port_fault m.new.ended ≡ false → I.rest input.new ≡ Some (serial fuel s).rest }
+    ensures output { (s : State) (before : List ℕ) → m.old ≡ s.machine → I.rest input.old ≡ Some s.rest → is_port_fault m.new.ended ≡ false → O.written out.old ≡ Some (before ++ s.output) → O.written out.new ≡ Some (before ++ (serial fuel s).output) }
+    ensures prefix { (s : State) (before : List ℕ) → m.old ≡ s.machine → I.rest input.old ≡ Some s.rest → IsNone m.old.ended → is_port_fault m.new.ended ≡ true → O.written out.old ≡ Some (before ++ s.output) → IsPrefixOf (O.written out.new) (before ++ (serial fuel s).output) }
+
+    ensures read_fault { m.new.ended ≡ Some End.ReadFault → (m.old.ended ≡ Some End.ReadFault) ⊎ Rose (I.faults input.old) (I.faults input.new) }
+    ensures write_fault { m.new.ended ≡ Some End.WriteFault → (m.old.ended ≡ Some End.WriteFault) ⊎ Rose (O.faults out.old) (O.faults out.new) }
+    ensures input_never_falls { I.faults input.old ≤ I.faults input.new }
+    ensures output_never_falls { O.faults out.old ≤ O.faults out.new }
+{
+    count_steps(m, fuel, input, out)
+}
+
+/// Executes instructions until the run ends, but at most `fuel` of them, and says how it ended: the
+/// same as `run_counted`, without the count.
+pub fn run_serial<I: Source, O: Sink>(m: &mut Machine, fuel: u64, input: &mut I, out: &mut O) -> End
+    ensures end { result ≡ unwrap_or m.new.ended End.Spent }
+    ensures machine { (s : State) → m.old ≡ s.machine → I.rest input.old ≡ Some s.rest → is_port_fault m.new.ended ≡ false → m.new ≡ (serial fuel s).machine }
+    ensures rest { (s : State) → m.old ≡ s.machine → I.rest input.old ≡ Some s.rest → is_port_fault m.new.ended ≡ false → I.rest input.new ≡ Some (serial fuel s).rest }
+    ensures output { (s : State) (before : List ℕ) → m.old ≡ s.machine → I.rest input.old ≡ Some s.rest → is_port_fault m.new.ended ≡ false → O.written out.old ≡ Some (before ++ s.output) → O.written out.new ≡ Some (before ++ (serial fuel s).output) }
+    ensures prefix { (s : State) (before : List ℕ) → m.old ≡ s.machine → I.rest input.old ≡ Some s.rest → IsNone m.old.ended → is_port_fault m.new.ended ≡ true → O.written out.old ≡ Some (before ++ s.output) → IsPrefixOf (O.written out.new) (before ++ (serial fuel s).output) }
+
+    ensures read_fault { m.new.ended ≡ Some End.ReadFault → (m.old.ended ≡ Some End.ReadFault) ⊎ Rose (I.faults input.old) (I.faults input.new) }
+    ensures write_fault { m.new.ended ≡ Some End.WriteFault → (m.old.ended ≡ Some End.WriteFault) ⊎ Rose (O.faults out.old) (O.faults out.new) }
+    ensures input_never_falls { I.faults input.old ≤ I.faults input.new }
+    ensures output_never_falls { O.faults out.old ≤ O.faults out.new }
+{
+    run_counted(m, fuel, input, out).end
 }

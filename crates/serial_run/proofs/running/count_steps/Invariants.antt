@@ -1,7 +1,7 @@
 use Rattle.std.proofs.Common.{◌≡◌, ℕ, ◌<◌, ◌≤◌, List, Some, None}
 use Rattle.std.specs.Prelude.{IsNone}
 use Rattle.serial_run.specs.Serial.{State, ended, serial}
-use Rattle.serial_run.proofs.running.run_counted.Given as goal
+use Rattle.serial_run.proofs.running.count_steps.Given as goal
 
 abbrev pub invariant-loop-k : goal.invariant-loop-k
 invariant-loop-k g l = record {

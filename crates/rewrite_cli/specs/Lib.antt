@@ -1,0 +1,5 @@
+pub mod Words
+pub mod Reading
+pub mod Status
+pub mod Texts
+pub mod Effect

@@ -1,0 +1,8 @@
+//! Runs static RV64IM executables.
+#![tactic(auto)]
+
+mod report;
+mod status;
+mod words;
+
+fn main() {}

@@ -1,0 +1,133 @@
+ghost use Rattle.std.specs.Prelude.{◌≡◌, ◌+◌, ◌-◌, ◌<◌, ◌≤◌, ◌++◌, ◌⊎◌, ℕ, List, Some, length, take, string_bytes, codes, IfOk, OnOk, OnErr, IsOk, IsErr};
+ghost use Rattle.outside_ports.specs.Ports.{Rose};
+ghost use Rattle.serial_run.specs.Ports.{IsPrefixOf};
+ghost use Rattle.rewrite_cli.specs.Texts.{report_of, fault_text, why_text, reason_text, count_lines, line, usage_text};
+
+use crate::status::{Reason, Status};
+use outside_ports::{Failed, Sink};
+use rv64_decode::{Fault, MemFault};
+use std::alloc::{AllocError, Global};
+
+const USAGE: &str = "usage: list FILE | rewrite FILE NEW | run FILE HARTS [FUEL [DUMP]] | replay FILE HARTS ORDER | make KIND N NEW\n";
+
+fn why_name(why: MemFault) -> &'static str
+    ensures { result.now ≡ why_text why }
+{
+    match why {
+        MemFault::Misaligned => "misaligned",
+        MemFault::Unmapped => "unmapped",
+        MemFault::Denied => "denied",
+    }
+}
+
+// The kind of a fault.
+fn fault_name(alloc: Global, kind: Fault) -> Result<String, AllocError>
+    ensures { IfOk result (λ s. string_bytes s ≡ fault_text kind) }
+{
+    match kind {
+        Fault::Fetch => String::from_str(alloc, "fetch"),
+        Fault::Illegal => String::from_str(alloc, "illegal"),
+        Fault::Break => String::from_str(alloc, "break"),
+        Fault::Target => String::from_str(alloc, "target"),
+        Fault::Load(why) => {
+            let why = why_name(why);
+            format!(in alloc; "load-{why}")
+        }
+        Fault::Store(why) => {
+            let why = why_name(why);
+            format!(in alloc; "store-{why}")
+        }
+    }
+}
+
+// The counts of a run by one hart.
+fn count_text(alloc: Global, steps: u64) -> Result<String, AllocError>
+    ensures { IfOk result (λ s. string_bytes s ≡ count_lines steps) }
+{
+    let mut text = format!(in alloc; "hart 0 instructions {steps}\n")?;
+    let line = format!(in alloc; "steps {steps}\n")?;
+    text.push_str(line.as_str())?;
+    Ok(text)
+}
+
+// A refusal with its fields.
+fn reason_line(alloc: Global, why: Reason) -> Result<String, AllocError>
+    ensures { IfOk result (λ s. string_bytes s ≡ line (codes "refused " ++ reason_text why)) }
+{
+    match why {
+        Reason::LoadTooLong { limit } => format!(in alloc; "refused load-too-long {limit}\n"),
+        Reason::NotElf => String::from_str(alloc, "refused not-elf\n"),
+        Reason::Unbuilt => String::from_str(alloc, "refused unbuilt\n"),
+    }
+}
+
+fn exit_text(alloc: Global, steps: u64, code: u8) -> Result<String, AllocError>
+    ensures { IfOk result (λ s. string_bytes s ≡ report_of steps (Status.Exited code)) }
+{
+    let mut text = count_text(alloc, steps)?;
+    let line = format!(in alloc; "exit {code}\n")?;
+    text.push_str(line.as_str())?;
+    Ok(text)
+}
+
+fn fault_report(alloc: Global, steps: u64, kind: Fault, pc: u64, addr: u64) -> Result<String, AllocError>
+    ensures { IfOk result (λ s. string_bytes s ≡ report_of steps (Status.Faulted kind pc addr)) }
+{
+    let mut text = count_text(alloc, steps)?;
+    let kind = fault_name(alloc, kind)?;
+    let line = format!(in alloc; "fault {kind} pc 0x{pc:016x} addr 0x{addr:016x}\n")?;
+    text.push_str(line.as_str())?;
+    Ok(text)
+}
+
+/// The report of an answer, after so many instructions.
+pub fn report_text(alloc: Global, status: &Status, steps: u64) -> Result<String, AllocError>
+    ensures { IfOk result (λ s. string_bytes s ≡ report_of steps status.now) }
+{
+    match *status {
+        Status::Exited(code) => exit_text(alloc, steps, code),
+        Status::Faulted { kind, pc, addr } => fault_report(alloc, steps, kind, pc, addr),
+        Status::Spent => String::from_str(alloc, "spent\n"),
+        Status::Usage => String::from_str(alloc, USAGE),
+        Status::Refused(why) => reason_line(alloc, why),
+        Status::StoreFault => String::from_str(alloc, "store-fault\n"),
+        Status::ReadFault => String::from_str(alloc, "read-fault\n"),
+        Status::WriteFault => Ok(String::new(alloc)),
+        Status::OutOfMemory => String::from_str(alloc, "out-of-memory\n"),
+    }
+}
+
+/// Appends all of these bytes; after a fault a first part of them.
+pub fn write_all<P: Sink>(report: &mut P, bytes: &[u8]) -> Result<(), Failed>
+    ensures written { OnOk result ((zs : List ℕ) → P.written report.old ≡ Some zs → P.written report.new ≡ Some (zs ++ bytes.now)) }
+    ensures prefix { OnErr result ((zs : List ℕ) → P.written report.old ≡ Some zs → (k : ℕ) × (P.written report.new ≡ Some (zs ++ take k bytes.now))) }
+    ensures failed { OnErr result (Rose (P.faults report.old) (P.faults report.new)) }
+    ensures never_falls { P.faults report.old ≤ P.faults report.new }
+{
+    let mut done = 0;
+    while done < bytes.len() {
+        match report.write(&bytes[done..]) {
+            Ok(count) => done += count,
+            Err(failed) => return Err(failed),
+        }
+    }
+    Ok(())
+}
+
+const OUT_OF_MEMORY: &[u8] = b"out-of-memory\n";
+
+/// Answers with this status: writes its report, and says what the answer is now. `OutOfMemory` stands
+/// in its place where there is no memory for the report, and `WriteFault` where the report is not
+/// written.
+pub fn answer<P: Sink>(alloc: Global, report: &mut P, status: Status, steps: u64) -> Status
+    ensures answer { (result ≡ status) ⊎ ((result ≡ Status.OutOfMemory) ⊎ (result ≡ Status.WriteFault)) }
+    ensures reported { (zs : List ℕ) → result ≢ Status.WriteFault → P.written report.old ≡ Some zs → P.written report.new ≡ Some (zs ++ report_of steps result) }
+    ensures prefix { (zs : List ℕ) → result ≡ Status.WriteFault → P.written report.old ≡ Some zs → IsReportPart zs steps status (P.written report.new) }
+    ensures write_fault { result ≡ Status.WriteFault → (status ≡ Status.WriteFault) ⊎ Rose (P.faults report.old) (P.faults report.new) }
+    ensures never_falls { P.faults report.old ≤ P.faults report.new }
+{
+    match report_text(alloc, &status, steps) {
+        Ok(text) => write_answer(report, text.as_bytes(), status),
+        Err(_) => write_answer(report, OUT_OF_MEMORY, Status::OutOfMemory),
+    }
+}
