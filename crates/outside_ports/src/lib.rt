@@ -2,6 +2,9 @@
 // and a gate, with fakes that tell their content and adapters to the real world.
 #![tactic(auto)]
 
+mod calls;
+pub mod mem_source;
 pub mod ports;
 
+pub use mem_source::MemSource;
 pub use ports::{Failed, Gate, SaveErr, Sink, Source, Store, StoreErr};
