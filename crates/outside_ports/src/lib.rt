@@ -2,9 +2,13 @@
 // and a gate, with fakes that tell their content and adapters to the real world.
 #![tactic(auto)]
 
+pub mod adapters;
 mod calls;
+pub mod mem_sink;
 pub mod mem_source;
 pub mod ports;
 
+pub use adapters::{NoGate, StdSource};
+pub use mem_sink::MemSink;
 pub use mem_source::MemSource;
 pub use ports::{Failed, Gate, SaveErr, Sink, Source, Store, StoreErr};
