@@ -1,4 +1,4 @@
-ghost use Rattle.std.specs.Prelude.{◌≡◌, ◌↔◌, ℕ, Contains, IsErr, OnOk, OnErr};
+ghost use Rattle.std.specs.Prelude.{◌≡◌, ◌≤◌, ◌↔◌, ℕ, Contains, IsErr, OnOk, OnErr};
 ghost use Rattle.outside_ports.specs.Fakes.{next_number};
 
 use crate::ports::Failed;
@@ -28,6 +28,7 @@ impl Calls {
         ensures failed { IsErr result ↔ Contains self.old.fails.items self.old.number }
         ensures ok { OnOk result (self.new ≡ record self.old { number = next_number self.old.number }) }
         ensures err { OnErr result (self.new ≡ record self.old { number = next_number self.old.number; faults = next_number self.old.faults }) }
+        ensures never_falls { self.old.faults ≤ self.new.faults }
     {
         let number = self.number;
         self.number = number.saturating_add(1);
@@ -39,7 +40,8 @@ impl Calls {
 
     // Counts a fault.
     pub(crate) fn fault(&mut self) -> Failed
-        ensures { self.new ≡ record self.old { faults = next_number self.old.faults } }
+        ensures counted { self.new ≡ record self.old { faults = next_number self.old.faults } }
+        ensures never_falls { self.old.faults ≤ self.new.faults }
     {
         self.faults = self.faults.saturating_add(1);
         Failed

@@ -4,11 +4,16 @@
 
 pub mod adapters;
 mod calls;
+mod entry;
+pub mod file_store;
 pub mod mem_sink;
 pub mod mem_source;
+pub mod mem_store;
 pub mod ports;
 
-pub use adapters::{NoGate, StdSource};
+pub use adapters::{ErrSink, NoGate, StdSink, StdSource};
+pub use file_store::FileStore;
 pub use mem_sink::MemSink;
 pub use mem_source::MemSource;
+pub use mem_store::MemStore;
 pub use ports::{Failed, Gate, SaveErr, Sink, Source, Store, StoreErr};
