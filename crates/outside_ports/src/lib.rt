@@ -17,3 +17,6 @@ pub use mem_sink::MemSink;
 pub use mem_source::MemSource;
 pub use mem_store::MemStore;
 pub use ports::{Failed, Gate, SaveErr, Sink, Source, Store, StoreErr};
+
+#[cfg(test)]
+mod tests;
