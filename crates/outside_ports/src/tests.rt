@@ -4,9 +4,10 @@ use crate::{
     ErrSink, Failed, FileStore, Gate, MemSink, MemSource, MemStore, NoGate, SaveErr, Sink, Source,
     StdSink, StdSource, Store, StoreErr,
 };
+use std::alloc::Global;
+use std::fs;
 use std::io::{self, ErrorKind, Read, Write};
 use std::test::Fail;
-use std::{env, fs};
 
 // One read of up to four bytes: how many, and the first of them.
 fn read_from<S: Source>(source: &mut S) -> Result<(usize, u8), Failed> {
@@ -19,6 +20,17 @@ fn write_to<S: Sink>(sink: &mut S, piece: &str) -> Result<usize, Failed> {
     sink.write(piece.as_bytes())
 }
 
+// The length and the first byte of what a store has under a name.
+fn load_from<S: Store>(
+    alloc: Global,
+    store: &mut S,
+    name: &str,
+    limit: u64,
+) -> Result<(usize, u8), StoreErr> {
+    let bytes = store.load(alloc, name, limit)?;
+    Ok((bytes.len(), bytes.first().copied().unwrap_or(b'-')))
+}
+
 fn pass<G: Gate>(gate: &G) {
     gate.enter(3);
 }
@@ -27,52 +39,60 @@ fn pass<G: Gate>(gate: &G) {
 fn source_gives_a_byte_at_a_time_and_fails_once(rt: HostRuntime) -> Result<(), Fail> {
     let bytes = b"abc".to_vec(rt.alloc())?;
     let mut source = MemSource::new(bytes, 1, vec![in rt.alloc(); 1]?);
-    assert_eq!(rt; read_from(&mut source), Ok((1, b'a')));
-    assert_eq!(rt; read_from(&mut source), Err(Failed));
-    assert_eq!(rt; source.rest(), b"bc".as_slice());
-    assert_eq!(rt; read_from(&mut source), Ok((1, b'b')));
-    assert_eq!(rt; read_from(&mut source), Ok((1, b'c')));
-    assert_eq!(rt; read_from(&mut source), Ok((0, b'-')));
+    for want in [
+        Ok((1, b'a')),
+        Err(Failed),
+        Ok((1, b'b')),
+        Ok((1, b'c')),
+        Ok((0, b'-')),
+    ] {
+        assert!(rt; read_from(&mut source) == want);
+    }
+    assert!(rt; source.rest().len() == 0);
     Ok(())
 }
 
 #[test]
 fn sink_fails_its_second_call_and_where_it_is_full(rt: HostRuntime) -> Result<(), Fail> {
     let mut sink = MemSink::new(rt.alloc(), 4, vec![in rt.alloc(); 1]?)?;
-    assert_eq!(rt; write_to(&mut sink, "abc"), Ok(3));
-    assert_eq!(rt; write_to(&mut sink, "d"), Err(Failed));
-    assert_eq!(rt; write_to(&mut sink, "ef"), Ok(1));
-    assert_eq!(rt; write_to(&mut sink, "g"), Err(Failed));
-    assert_eq!(rt; write_to(&mut sink, ""), Ok(0));
-    assert_eq!(rt; sink.bytes(), b"abce".as_slice());
-    assert_eq!(rt; sink.into_bytes().as_slice(), b"abce".as_slice());
+    for (piece, want) in [
+        ("abc", Ok(3)),
+        ("d", Err(Failed)),
+        ("ef", Ok(1)),
+        ("g", Err(Failed)),
+        ("", Ok(0)),
+    ] {
+        assert!(rt; write_to(&mut sink, piece) == want, "at {piece}");
+    }
+    assert!(rt; sink.bytes().len() == 4);
+    assert!(rt; sink.into_bytes().as_slice() == b"abce".as_slice());
     Ok(())
 }
 
 #[test]
 fn store_tells_a_missing_name_from_a_failing_call(rt: HostRuntime) -> Result<(), Fail> {
-    let mut store = MemStore::new(rt.alloc(), vec![in rt.alloc(); 2, 3]?);
+    let mut store = MemStore::new(rt.alloc(), vec![in rt.alloc(); 3, 5]?);
     store.put("a", b"xyz")?;
-    assert_eq!(rt;
-        store.load(rt.alloc(), "b", 9).err(),
-        Some(StoreErr::Failed)
-    );
-    assert_eq!(rt; store.save(rt.alloc(), "b", b"12"), Ok(()));
-    assert_eq!(rt;
-        store.load(rt.alloc(), "b", 9).err(),
-        Some(StoreErr::Failed)
-    );
-    assert_eq!(rt; store.save(rt.alloc(), "a", b"34"), Err(SaveErr::Failed));
-    assert_eq!(rt; store.get("a"), Some(b"xyz".as_slice()));
-    assert_eq!(rt;
-        store.load(rt.alloc(), "a", 2).err(),
-        Some(StoreErr::TooLong)
-    );
-    let whole = store.load(rt.alloc(), "a", 3).ok().ok_or("no content")?;
-    assert_eq!(rt; whole.as_slice(), b"xyz".as_slice());
-    store.put("b", b"")?;
-    assert_eq!(rt; store.get("b"), Some(b"".as_slice()));
-    assert_eq!(rt; store.get("c"), None);
+    for (name, limit, want) in [
+        ("b", 9, Err(StoreErr::Failed)),
+        ("a", 2, Err(StoreErr::TooLong)),
+        ("a", 3, Ok((3, b'x'))),
+        ("a", 3, Err(StoreErr::Failed)),
+    ] {
+        assert!(rt;
+            load_from(rt.alloc(), &mut store, name, limit) == want,
+            "at {name}"
+        );
+    }
+    for (bytes, want) in [("12", Ok(())), ("3", Err(SaveErr::Failed)), ("45", Ok(()))] {
+        assert!(rt;
+            store.save(rt.alloc(), bytes, bytes.as_bytes()) == want,
+            "at {bytes}"
+        );
+    }
+    for (name, want) in [("a", true), ("12", true), ("3", false), ("45", true)] {
+        assert!(rt; store.get(name).is_some() == want, "at {name}");
+    }
     Ok(())
 }
 
@@ -123,62 +143,57 @@ impl Write for Device {
 #[test]
 fn adapters_try_an_interrupted_call_again(rt: HostRuntime) {
     let mut source = StdSource::new(Device { calls: 0 });
-    assert_eq!(rt; read_from(&mut source), Ok((1, b'x')));
-    assert_eq!(rt; read_from(&mut source), Err(Failed));
     let mut sink = StdSink::new(Device { calls: 0 });
-    assert_eq!(rt; write_to(&mut sink, "ab"), Ok(1));
-    assert_eq!(rt; write_to(&mut sink, "b"), Err(Failed));
     let mut messages = ErrSink::new(Device { calls: 0 });
-    assert_eq!(rt; write_to(&mut messages, "ab"), Ok(1));
-    assert_eq!(rt; write_to(&mut messages, "b"), Err(Failed));
+    for (read, wrote) in [(Ok((1, b'x')), Ok(1)), (Err(Failed), Err(Failed))] {
+        assert!(rt; read_from(&mut source) == read);
+        assert!(rt; write_to(&mut sink, "ab") == wrote);
+        assert!(rt; write_to(&mut messages, "ab") == wrote);
+    }
     pass(&NoGate);
 }
 
 #[test]
 fn adapters_move_bytes_in_order(rt: HostRuntime) -> Result<(), Fail> {
     let mut source = StdSource::new(b"ab".as_slice());
-    assert_eq!(rt; read_from(&mut source), Ok((2, b'a')));
-    assert_eq!(rt; read_from(&mut source), Ok((0, b'-')));
-    let mut written = Vec::new(rt.alloc());
-    let mut sink = StdSink::new(&mut written);
-    assert_eq!(rt; write_to(&mut sink, "ab"), Ok(2));
-    assert_eq!(rt; write_to(&mut sink, "c"), Ok(1));
-    assert_eq!(rt; written.as_slice(), b"abc".as_slice());
-    // A writer without room takes nothing.
-    let mut room = [0u8; 1];
-    let mut full = ErrSink::new(room.as_mut_slice());
-    assert_eq!(rt; write_to(&mut full, "ab"), Ok(1));
-    assert_eq!(rt; write_to(&mut full, "b"), Err(Failed));
+    for want in [Ok((2, b'a')), Ok((0, b'-'))] {
+        assert!(rt; read_from(&mut source) == want);
+    }
+    // A writer that is full takes nothing.
+    let mut room = [0u8; 3];
+    let mut sink = StdSink::new(room.as_mut_slice());
+    for (piece, want) in [("ab", Ok(2)), ("cd", Ok(1)), ("d", Err(Failed))] {
+        assert!(rt; write_to(&mut sink, piece) == want, "at {piece}");
+    }
+    assert!(rt; room.as_slice() == b"abc".as_slice());
     Ok(())
 }
 
 #[test]
 fn files_are_saved_and_loaded(rt: HostRuntime) -> Result<(), Fail> {
-    let folder = env::temp_dir(&rt)?;
-    let folder = folder.as_path().to_str().ok_or("no name")?;
-    let name = format!(in rt.alloc(); "{folder}/outside_ports_files_are_saved")?;
-    let name = name.as_str();
+    let name = "/tmp/outside_ports_files_are_saved_and_loaded";
     let mut files = FileStore::new(&rt);
-    assert_eq!(rt; files.save(rt.alloc(), name, b"12345"), Ok(()));
-    assert_eq!(rt; files.save(rt.alloc(), name, b"abc"), Ok(()));
-    let whole = files.load(rt.alloc(), name, 3).ok().ok_or("no content")?;
-    assert_eq!(rt; whole.as_slice(), b"abc".as_slice());
-    assert_eq!(rt;
-        files.load(rt.alloc(), name, 2).err(),
-        Some(StoreErr::TooLong)
-    );
+    for (name, bytes, want) in [
+        (name, "12345", Ok(())),
+        (name, "abc", Ok(())),
+        ("/tmp", "abc", Err(SaveErr::Failed)),
+    ] {
+        assert!(rt;
+            files.save(rt.alloc(), name, bytes.as_bytes()) == want,
+            "at {name}"
+        );
+    }
+    for (name, limit, want) in [
+        (name, 3, Ok((3, b'a'))),
+        (name, 2, Err(StoreErr::TooLong)),
+        ("/tmp", 3, Err(StoreErr::Failed)),
+        ("/tmp/outside_ports_no_such_file", 3, Err(StoreErr::Failed)),
+    ] {
+        assert!(rt;
+            load_from(rt.alloc(), &mut files, name, limit) == want,
+            "at {name}"
+        );
+    }
     fs::remove_file(&rt, name)?;
-    assert_eq!(rt;
-        files.load(rt.alloc(), name, 3).err(),
-        Some(StoreErr::Failed)
-    );
-    assert_eq!(rt;
-        files.load(rt.alloc(), folder, 3).err(),
-        Some(StoreErr::Failed)
-    );
-    assert_eq!(rt;
-        files.save(rt.alloc(), folder, b"abc"),
-        Err(SaveErr::Failed)
-    );
     Ok(())
 }
