@@ -75,8 +75,8 @@ impl Sink for MemSink {
 
         ensures count { IfOk result (λ k. k ≤ length piece.now) }
         ensures progress { IfOk result (λ k. 0 < length piece.now → 0 < k) }
-        ensures appended { IfOk result (λ k. (xs : List ℕ) → Some self.old.written ≡ Some xs → Some self.new.written ≡ Some (xs ++ take k piece.now)) }
-        ensures prefix { OnErr result ((xs : List ℕ) → Some self.old.written ≡ Some xs → (k : ℕ) × (Some self.new.written ≡ Some (xs ++ take k piece.now))) }
+        ensures appended { IfOk result (λ k. self.new.written ≡ self.old.written ++ take k piece.now) }
+        ensures prefix { OnErr result (self.new.written ≡ self.old.written) }
         ensures failed { OnErr result (Rose self.old.faults self.new.faults) }
         ensures never_falls { self.old.faults ≤ self.new.faults }
     {

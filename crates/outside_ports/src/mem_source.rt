@@ -66,7 +66,7 @@ impl Source for MemSource {
         ensures ok { IfOk result (λ k. self.new ≡ record self.old { rest = drop k self.old.rest; calls = next_number self.old.calls }) }
 
         ensures count { IfOk result (λ k. k ≤ length buf.new) }
-        ensures moved { IfOk result (λ k. (xs : List ℕ) → Some self.old.rest ≡ Some xs → Moved xs (Some self.new.rest) k buf.new) }
+        ensures moved { IfOk result (λ k. Moved self.old.rest (Some self.new.rest) k buf.new) }
         ensures failed { OnErr result (Rose self.old.faults self.new.faults) }
         ensures never_falls { self.old.faults ≤ self.new.faults }
     {

@@ -69,9 +69,9 @@ impl Store for MemStore {
         ensures after_fault { Contains self.old.fails self.old.calls → self.new ≡ record self.old { calls = next_number self.old.calls; faults = next_number self.old.faults } }
         ensures after { ¬ Contains self.old.fails self.old.calls → self.new ≡ record self.old { calls = next_number self.old.calls } }
 
-        ensures content { IfOk result (λ v. (m : Files) → Some (files_of self.old.entries) ≡ Some m → m name.now ≡ Some v.items) }
+        ensures content { IfOk result (λ v. files_of self.old.entries name.now ≡ Some v.items) }
         ensures within { IfOk result (λ v. length v.items ≤ limit) }
-        ensures too_long { IsErrOf result StoreErr.TooLong → (m : Files) → Some (files_of self.old.entries) ≡ Some m → PassesLimit (m name.now) limit }
+        ensures too_long { IsErrOf result StoreErr.TooLong → PassesLimit (files_of self.old.entries name.now) limit }
         ensures failed { IsErrOf result StoreErr.Failed → Rose self.old.faults self.new.faults ⊎ Lacks (Some (files_of self.old.entries)) name.now }
         ensures same { Some (files_of self.new.entries) ≡ Some (files_of self.old.entries) }
         ensures never_falls { self.old.faults ≤ self.new.faults }
@@ -98,9 +98,9 @@ impl Store for MemStore {
         ensures after_fault { IsErrOf result SaveErr.Failed → self.new ≡ record self.old { calls = next_number self.old.calls; faults = next_number self.old.faults } }
         ensures no_memory { IsErrOf result SaveErr.OutOfMemory → self.new ≡ record self.old { calls = next_number self.old.calls } }
 
-        ensures saved { OnOk result ((m : Files) → Some (files_of self.old.entries) ≡ Some m → SavedIn m (Some (files_of self.new.entries)) name.now bytes.now) }
+        ensures saved { OnOk result (SavedIn (files_of self.old.entries) (Some (files_of self.new.entries)) name.now bytes.now) }
         ensures failed { IsErrOf result SaveErr.Failed → Rose self.old.faults self.new.faults }
-        ensures others { IsErrOf result SaveErr.Failed → (m : Files) → Some (files_of self.old.entries) ≡ Some m → SameButIn m (Some (files_of self.new.entries)) name.now }
+        ensures others { IsErrOf result SaveErr.Failed → SameButIn (files_of self.old.entries) (Some (files_of self.new.entries)) name.now }
         ensures out_of_memory { IsErrOf result SaveErr.OutOfMemory → Some (files_of self.new.entries) ≡ Some (files_of self.old.entries) }
         ensures never_falls { self.old.faults ≤ self.new.faults }
     {
