@@ -1,0 +1,95 @@
+ghost use Rattle.std.specs.Prelude.{◌≡◌, ◌≢◌, ◌⊎◌, ◌≤◌, ℕ, None, Some, IfOk, OnOk, OnErr, IsErrOf, length};
+ghost use Rattle.outside_ports.specs.Fakes.{next_number};
+ghost use Rattle.outside_ports.specs.Ports.{Files, Lacks, PassesLimit, Rose, SameButIn, SavedIn};
+
+use crate::ports::{SaveErr, Store, StoreErr};
+use std::alloc::Global;
+use std::fs;
+use std::io::{ErrorKind, Read};
+use std::marker::Model;
+use std::rt::Files;
+
+/// The files of the system, by their paths. It is seen as its count of faults.
+#[derive(Drop)]
+pub struct FileStore<'a, R: Files> {
+    rt: &'a R,
+    faults: u64,
+}
+
+impl<'a, R: Files> Model for FileStore<'a, R> {
+    ghost use Rattle.std.specs.Prelude.{ℕ};
+
+    ghost Value = { ℕ };
+
+    ghost view = { λ s. s.faults };
+}
+
+impl<'a, R: Files> FileStore<'a, R> {
+    /// The files that this runtime reaches, where no fault was met.
+    pub fn new(rt: &'a R) -> FileStore<'a, R>
+        ensures { result ≡ 0 }
+    {
+        FileStore { rt, faults: 0 }
+    }
+}
+
+impl<R: Files> Store for FileStore<'_, R> {
+    ghost files = { λ _. None };
+
+    ghost faults = { λ s. s };
+
+    /// Reads the file to its end, and no more than one byte past `limit`. A file that is missing or
+    /// cannot be read, and a folder, are faults.
+    fn load(&mut self, alloc: Global, name: &str, limit: u64) -> Result<Vec<u8>, StoreErr>
+        ensures fault { result ≡ Err StoreErr.Failed → self.new ≡ next_number self.old }
+        ensures no_fault { result ≢ Err StoreErr.Failed → self.new ≡ self.old }
+
+        ensures content { IfOk result (λ v. (m : Files) → None ≡ Some m → m name.now ≡ Some v.items) }
+        ensures within { IfOk result (λ v. length v.items ≤ limit) }
+        ensures too_long { IsErrOf result StoreErr.TooLong → (m : Files) → None ≡ Some m → PassesLimit (m name.now) limit }
+        ensures failed { IsErrOf result StoreErr.Failed → Rose self.old self.new ⊎ Lacks None name.now }
+        ensures never_falls { self.old ≤ self.new }
+    {
+        let answer = read_file(self.rt, alloc, name, limit);
+        if let Err(StoreErr::Failed) = &answer {
+            self.faults = self.faults.saturating_add(1);
+        }
+        answer
+    }
+
+    /// Makes the file or replaces what is in it. Each error is a fault, after which the file may be
+    /// missing, as before, or cut off anywhere.
+    fn save(&mut self, _alloc: Global, name: &str, bytes: &[u8]) -> Result<(), SaveErr>
+        ensures ok { OnOk result (self.new ≡ self.old) }
+        ensures err { OnErr result (self.new ≡ next_number self.old) }
+
+        ensures saved { OnOk result ((m : Files) → None ≡ Some m → SavedIn m None name.now bytes.now) }
+        ensures failed { IsErrOf result SaveErr.Failed → Rose self.old self.new }
+        ensures others { IsErrOf result SaveErr.Failed → (m : Files) → None ≡ Some m → SameButIn m None name.now }
+        ensures never_falls { self.old ≤ self.new }
+    {
+        match fs::write(self.rt, name, bytes) {
+            Ok(()) => Ok(()),
+            Err(_) => {
+                self.faults = self.faults.saturating_add(1);
+                Err(SaveErr::Failed)
+            }
+        }
+    }
+}
+
+// All bytes of a file, of which there are at most `limit`.
+fn read_file<R: Files>(rt: &R, alloc: Global, name: &str, limit: u64) -> Result<Vec<u8>, StoreErr>
+    ensures within { IfOk result (λ v. length v.items ≤ limit) }
+{
+    let Ok(file) = fs::open(rt, name) else {
+        return Err(StoreErr::Failed);
+    };
+    let mut bytes = Vec::new(alloc);
+    match file.take(limit.saturating_add(1)).read_to_end(&mut bytes) {
+        Ok(_) if bytes.len() as u64 <= limit => Ok(bytes),
+        Ok(_) => Err(StoreErr::TooLong),
+        Err(error) if error.kind() == ErrorKind::OutOfMemory => Err(StoreErr::OutOfMemory),
+        Err(_) => Err(StoreErr::Failed),
+    }
+}
