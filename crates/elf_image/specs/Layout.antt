@@ -1,5 +1,5 @@
 -- Where the load segments of an executable lie in memory.
-use Rattle.std.specs.Prelude.{ℕ, ◌≡◌, ◌==◌, ◌+◌, ◌*◌, ◌/◌, ◌%◌, ◌^◌, ◌<◌, ◌≤◌, ◌-◌, Bool, true, ◌&&◌, ◌||◌, false, nat_le, nat_lt, max, List, [], ◌∷◌, length}
+use Rattle.std.specs.Prelude.{ℕ, ◌≡◌, ◌==◌, ◌+◌, ◌*◌, ◌/◌, ◌%◌, ◌<◌, ◌≤◌, ◌-◌, Bool, true, ◌&&◌, ◌||◌, false, nat_le, nat_lt, List, [], ◌∷◌, length}
 use Rattle.elf_image.specs.declared.image.Segment.{Segment}
 use Rattle.elf_image.specs.declared.image.Elf.{Elf}
 

@@ -2,7 +2,7 @@ ghost use Rattle.std.specs.Prelude.{◌≡◌, length};
 
 use std::marker::Model;
 
-/// The bytes of a load segment in the file, seen as a list.
+/// Bytes of a file, seen as a list.
 #[derive(Drop)]
 pub struct Bytes {
     bytes: Vec<u8>,

@@ -239,17 +239,22 @@ after-denied m i x width value lie p closed = let e = denied writable_of m i x w
 abbrev pub stored_in : Area → ℕ → Width → ℕ → Area
 stored_in a x width value = rebytes a (with_bytes (bytes_of width) (x - a.low) value a.bytes)
 
-pub after-done : (m : List Area) (i x : ℕ) (width : Width) (value : ℕ) → LieFrom 0 m → IsPlace m i x width → (nth_area m i).writable ≡ true
-    → after_store m x width value ≡ set m i (stored_in (nth_area m i) x width value)
-after-done m i x width value lie p open_to =
+pub with_number-place : (m : List Area) (i x : ℕ) (width : Width) (value : ℕ) → LieFrom 0 m → IsPlace m i x width
+    → with_number (bytes_of width) m x value ≡ set m i (stored_in (nth_area m i) x width value)
+with_number-place m i x width value lie p =
     let a = nth_area m i in
     let k : ℕ = x - a.low in
-    let e = granted writable_of m i x width lie p open_to in
     let low = p.low in
     let fits = p.fits in
     let n = with_number-nth (bytes_of width) 0 m i k x value a refl lie p.within (omega arith) (omega arith) in
     let b = bytes_by-with_bytes (bytes_of width) k value a.bytes (omega arith) in
-    rw e (n ∙ ap (λ (v : List ℕ). set m i (rebytes a v)) b)
+    n ∙ ap (λ (v : List ℕ). set m i (rebytes a v)) b
+
+pub after-done : (m : List Area) (i x : ℕ) (width : Width) (value : ℕ) → LieFrom 0 m → IsPlace m i x width → (nth_area m i).writable ≡ true
+    → after_store m x width value ≡ set m i (stored_in (nth_area m i) x width value)
+after-done m i x width value lie p open_to =
+    let e = granted writable_of m i x width lie p open_to in
+    rw e (with_number-place m i x width value lie p)
 
 pub stored-lie : (m : List Area) (i x : ℕ) (width : Width) (value : ℕ) → LieFrom 0 m → IsPlace m i x width → LieFrom 0 (set m i (stored_in (nth_area m i) x width value))
 stored-lie m i x width value lie p =

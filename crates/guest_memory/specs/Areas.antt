@@ -1,5 +1,5 @@
 -- The memory that an executable starts with: its load segments, the heap behind them, and the stack.
-use Rattle.std.specs.Prelude.{ℕ, ◌+◌, ◌-◌, ◌*◌, ◌/◌, Bool, true, false, max, List, [], ◌∷◌, ◌++◌, length, replicate}
+use Rattle.std.specs.Prelude.{ℕ, ◌+◌, ◌-◌, ◌*◌, ◌/◌, true, false, max, List, [], ◌∷◌, ◌++◌, length, replicate}
 use Rattle.elf_image.specs.declared.image.Segment.{Segment}
 use Rattle.elf_image.specs.declared.image.Elf.{Elf}
 use Rattle.elf_image.specs.Layout.{rounded_low, rounded_end, is_readable, is_writable, is_executable}

@@ -25,6 +25,10 @@ nth_area m i = get_or m i no_area
 abbrev pub with_bytes : ℕ → ℕ → ℕ → List ℕ → List ℕ
 with_bytes n k value xs = take k xs ++ (little_bytes n value ++ drop (k + n) xs)
 
+-- the bytes from place k on replaced by others
+abbrev pub spliced : ℕ → List ℕ → List ℕ → List ℕ
+spliced k new xs = take k xs ++ (new ++ drop (k + length new) xs)
+
 -- the access lies within area i
 pub record IsPlace (m : List Area) (i addr : ℕ) (width : Width) : Type 0 where
   pub within : i < length m

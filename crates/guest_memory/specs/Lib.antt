@@ -1,3 +1,5 @@
-pub mod Layout
+pub mod Access
 pub mod Areas
+pub mod Layout
 pub mod Spans
+pub mod Words

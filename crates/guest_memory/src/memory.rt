@@ -1,12 +1,17 @@
-ghost use Rattle.std.specs.Prelude.{◌≡◌, ◌+◌, ◌-◌, ◌*◌, ◌/◌, ◌%◌, ◌<◌, ◌≤◌, ◌^◌, ℕ, length, true, IfOk, IfErr, IfSome, IsNone};
-ghost use Rattle.rv64_decode.specs.Area.{bytes_of, holds, area_at, load_of, fetch_of, store_of, after_store};
-ghost use Rattle.guest_memory.specs.Layout.{LieFrom, nth_area, IsPlace, IsRefused};
+ghost use Rattle.std.specs.Prelude.{◌≡◌, ◌⊎◌, ◌+◌, ◌-◌, ◌<◌, ◌≤◌, ◌^◌, ◌++◌, ℕ, List, length, take, true, Some, IsSome, IfOk};
+ghost use Rattle.rv64_decode.specs.Area.{bytes_of, readable_of, writable_of, load_of, fetch_of, with_number};
+ghost use Rattle.guest_memory.specs.Layout.{LieFrom};
+ghost use Rattle.guest_memory.specs.Spans.{permits, all_permitted, bytes_at, with_bytes_at, all_bytes};
+ghost use Rattle.guest_memory.specs.Words.{word_of, words_of};
 
-use crate::piece::Piece;
-use std::marker::Model;
+use crate::lookup::{fetch_from, load_from, peek_from, set_word_in, store_to, word_from};
+use crate::piece::{Access, Piece};
+use crate::spans::{allows_all, dump_of, piece_of, set_span, words_from};
 use rv64_decode::{MemFault, Width, Words};
+use std::alloc::{AllocError, Global};
+use std::marker::Model;
 
-/// The guest's memory.
+/// The guest's memory: areas of bytes with permissions, apart and in address order.
 #[derive(Drop)]
 pub struct Memory {
     areas: Vec<Piece>,
@@ -27,8 +32,8 @@ impl Model for Memory {
 }
 
 impl Memory {
-    /// The memory of these areas, of which one, `code`, is tried first at a fetch.
-    pub fn new(areas: Vec<Piece>, code: usize) -> Memory
+    // The memory of these areas, of which one, `code`, is tried first at a fetch.
+    pub(crate) fn new(areas: Vec<Piece>, code: usize) -> Memory
         requires { LieFrom 0 areas.items }
         ensures { result ≡ areas.items }
     {
@@ -39,11 +44,99 @@ impl Memory {
         }
     }
 
-    /// The instruction's word at an address.
+    /// The instruction word at an address.
     pub fn fetch(&self, addr: u64) -> Result<u32, MemFault>
         ensures { result ≡ fetch_of self.now addr }
     {
         fetch_from(self.areas.as_slice(), self.code, addr)
+    }
+
+    /// What a load of this width answers.
+    pub fn peek(&self, addr: u64, width: Width) -> Result<u64, MemFault>
+        ensures answer { result ≡ load_of self.now addr width }
+        ensures fits { IfOk result (λ n. n < 256 ^ bytes_of width) }
+    {
+        peek_from(self.areas.as_slice(), self.last, addr, width)
+    }
+
+    /// The 8 bytes at an address, the lowest first, whatever the permission. None where the address
+    /// is no multiple of 8 or lies in no area.
+    pub fn word(&self, addr: u64) -> Option<u64>
+        ensures { result ≡ word_of self.now addr }
+    {
+        word_from(self.areas.as_slice(), self.last, addr)
+    }
+
+    /// Sets the 8 bytes at an address, and no other. A word of an area that may not be written keeps
+    /// its value.
+    pub fn set_word(&mut self, addr: u64, value: u64)
+        requires there { IsSome (word_of self.old addr) }
+        requires writable { (permits writable_of self.old addr ≡ true) ⊎ (word_of self.old addr ≡ Some value) }
+        ensures { self.new ≡ with_number 8 self.old addr value }
+    {
+        set_word_in(self.areas.as_mut_slice(), self.last, addr, value)
+    }
+
+    /// The aligned 8-byte words of all areas, each with its address, in address order.
+    pub fn words(&self, alloc: Global) -> Result<Vec<(u64, u64)>, AllocError>
+        ensures { IfOk result (λ v. v.items ≡ words_of self.now) }
+    {
+        words_from(alloc, self.areas.as_slice())
+    }
+
+    /// The bytes of all areas, in address order.
+    pub fn dump(&self, alloc: Global) -> Result<Vec<u8>, AllocError>
+        ensures { IfOk result (λ v. v.items ≡ all_bytes self.now) }
+    {
+        dump_of(alloc, self.areas.as_slice())
+    }
+
+    /// Whether each of the `len` bytes from an address on may be read. They may lie in several areas.
+    pub fn can_read(&self, addr: u64, len: u64) -> bool
+        ensures value { result ≡ all_permitted readable_of len self.now addr }
+        ensures fits { result ≡ true → addr + len < 2 ^ 64 }
+        ensures each { result ≡ true → (k : ℕ) → k < len → permits readable_of self.now (addr + k) ≡ true }
+        ensures rest { result ≡ true → (k : ℕ) → k ≤ len → all_permitted readable_of (len - k) self.now (addr + k) ≡ true }
+    {
+        allows_all(self.areas.as_slice(), self.last, Access::Read, addr, len)
+    }
+
+    /// Whether each of the `len` bytes from an address on may be written. They may lie in several
+    /// areas.
+    pub fn can_write(&self, addr: u64, len: u64) -> bool
+        ensures value { result ≡ all_permitted writable_of len self.now addr }
+        ensures fits { result ≡ true → addr + len < 2 ^ 64 }
+        ensures each { result ≡ true → (k : ℕ) → k < len → permits writable_of self.now (addr + k) ≡ true }
+        ensures rest { result ≡ true → (k : ℕ) → k ≤ len → all_permitted writable_of (len - k) self.now (addr + k) ≡ true }
+    {
+        allows_all(self.areas.as_slice(), self.last, Access::Write, addr, len)
+    }
+
+    /// The bytes from an address on to the end of its area, but at most `most` of them.
+    pub fn piece(&self, addr: u64, most: u64) -> &[u8]
+        requires positive { 0 < most }
+        requires readable { permits readable_of self.now addr ≡ true }
+        ensures bytes { result.now ≡ bytes_at (length result.now) self.now addr }
+        ensures some { 0 < length result.now }
+        ensures within { length result.now ≤ most }
+
+        // The bytes behind them, and behind a part of them.
+        ensures front { (k : ℕ) → bytes_at (length result.now + k) self.now addr ≡ result.now ++ bytes_at k self.now (addr + length result.now) }
+        ensures part { (j k : ℕ) → j ≤ length result.now → bytes_at (j + k) self.now addr ≡ take j result.now ++ bytes_at k self.now (addr + j) }
+    {
+        piece_of(self.areas.as_slice(), self.last, addr, most)
+    }
+
+    /// Sets the bytes from an address on. They may lie in several areas.
+    pub fn set_bytes(&mut self, addr: u64, bytes: &[u8])
+        requires { all_permitted writable_of (length bytes.now) self.old addr ≡ true }
+        ensures bytes { self.new ≡ with_bytes_at self.old addr bytes.now }
+        ensures writable { (n x : ℕ) → all_permitted writable_of n self.new x ≡ all_permitted writable_of n self.old x }
+
+        // Further bytes behind them.
+        ensures more { (ys : List ℕ) → with_bytes_at self.new (addr + length bytes.now) ys ≡ with_bytes_at self.old addr (bytes.now ++ ys) }
+    {
+        set_span(self.areas.as_mut_slice(), self.last, addr, bytes)
     }
 }
 
@@ -69,102 +162,4 @@ impl Words for Memory {
             value,
         )
     }
-}
-
-// The place of the area that holds an address, by a binary search.
-fn search_for(areas: &[Piece], addr: u64) -> Option<usize>
-    requires { LieFrom 0 areas.now }
-    ensures found { IfSome result (λ i. (i < length areas.now) × (holds (nth_area areas.now i) addr ≡ true)) }
-    ensures none { IsNone result → area_at areas.now addr ≡ None }
-{
-    let mut low = 0;
-    let mut high = areas.len();
-    while low < high {
-        let middle = low + (high - low) / 2;
-        if areas[middle].end() <= addr {
-            low = middle + 1;
-        } else {
-            high = middle;
-        }
-    }
-    if low < areas.len() && areas[low].holds(addr) {
-        Some(low)
-    } else {
-        None
-    }
-}
-
-// The same, where the area that answered last is tried first.
-fn find(areas: &[Piece], last: usize, addr: u64) -> Option<usize>
-    requires { LieFrom 0 areas.now }
-    ensures found { IfSome result (λ i. (i < length areas.now) × (holds (nth_area areas.now i) addr ≡ true)) }
-    ensures none { IsNone result → area_at areas.now addr ≡ None }
-{
-    if last < areas.len() && areas[last].holds(addr) {
-        Some(last)
-    } else {
-        search_for(areas, addr)
-    }
-}
-
-// The place of the area in which an access lies, or why it lies in none.
-fn place_of(areas: &[Piece], last: usize, addr: u64, width: Width) -> Result<usize, MemFault>
-    requires { LieFrom 0 areas.now }
-    ensures placed { IfOk result (λ i. IsPlace areas.now i addr width) }
-    ensures refused { IfErr result (λ fault. IsRefused areas.now addr width fault) }
-{
-    if addr % width.bytes() != 0 {
-        return Err(MemFault::Misaligned);
-    }
-    match find(areas, last, addr) {
-        Some(i) => Ok(i),
-        None => Err(MemFault::Unmapped),
-    }
-}
-
-fn load_from(areas: &[Piece], last: &mut usize, addr: u64, width: Width) -> Result<u64, MemFault>
-    requires { LieFrom 0 areas.now }
-    ensures answer { result ≡ load_of areas.now addr width }
-    ensures fits { IfOk result (λ n. n < 256 ^ bytes_of width) }
-{
-    let i = place_of(areas, *last, addr, width)?;
-    *last = i;
-    let area = &areas[i];
-    if !area.is_readable() {
-        return Err(MemFault::Denied);
-    }
-    Ok(area.number(addr, width))
-}
-
-fn store_to(
-    areas: &mut [Piece],
-    last: &mut usize,
-    addr: u64,
-    width: Width,
-    value: u64,
-) -> Result<(), MemFault>
-    requires { LieFrom 0 areas.old }
-    ensures answer { result ≡ store_of areas.old addr width }
-    ensures after { areas.new ≡ after_store areas.old addr width value }
-    ensures lie { LieFrom 0 areas.new }
-{
-    let i = place_of(areas, *last, addr, width)?;
-    *last = i;
-    if !areas[i].is_writable() {
-        return Err(MemFault::Denied);
-    }
-    areas[i].set_number(addr, width, value);
-    Ok(())
-}
-
-fn fetch_from(areas: &[Piece], code: usize, addr: u64) -> Result<u32, MemFault>
-    requires { LieFrom 0 areas.now }
-    ensures { result ≡ fetch_of areas.now addr }
-{
-    let i = place_of(areas, code, addr, Width::Four)?;
-    let area = &areas[i];
-    if !area.is_executable() {
-        return Err(MemFault::Denied);
-    }
-    Ok(area.number(addr, Width::Four) as u32)
 }

@@ -1,15 +1,23 @@
 ghost use Rattle.std.specs.Prelude.{◌≡◌, ◌+◌, ◌-◌, ◌*◌, ◌/◌, ◌%◌, ◌<◌, ◌≤◌, ◌^◌, ℕ, length, drop, IsTrue, ◌↔◌};
 ghost use Rattle.rv64_decode.specs.Area.{bytes_of, holds as holds_of};
 ghost use Rattle.byteorder.specs.Endian.{little_number};
-ghost use Rattle.guest_memory.specs.Layout.{end_of, with_bytes};
+ghost use Rattle.guest_memory.specs.Layout.{end_of, with_bytes, spliced};
+ghost use Rattle.guest_memory.specs.Access.{permission_of};
 
 use byteorder::{ByteOrder, LittleEndian};
-use std::marker::Model;
 use rv64_decode::Width;
+use std::marker::Model;
+
+/// What is to be done with bytes.
+#[derive(Clone, Copy)]
+pub(crate) enum Access {
+    Read,
+    Write,
+}
 
 /// Bytes from an address on, and what may be done with them.
 #[derive(Drop)]
-pub struct Piece {
+pub(crate) struct Piece {
     low: u64,
     readable: bool,
     writable: bool,
@@ -77,6 +85,40 @@ impl Piece {
         ensures { result ≡ self.now.writable }
     {
         self.writable
+    }
+
+    pub fn allows(&self, access: Access) -> bool
+        ensures { result ≡ permission_of access self.now }
+    {
+        match access {
+            Access::Read => self.readable,
+            Access::Write => self.writable,
+        }
+    }
+
+    pub fn as_slice(&self) -> &[u8]
+        ensures { result.now ≡ self.now.bytes }
+    {
+        self.bytes.as_slice()
+    }
+
+    // The bytes from an address on.
+    pub fn bytes_from(&self, addr: u64) -> &[u8]
+        requires from { self.now.low ≤ addr }
+        requires to { addr ≤ end_of self.now }
+        ensures { result.now ≡ drop (addr - self.now.low) self.now.bytes }
+    {
+        &self.bytes.as_slice()[(addr - self.low) as usize..]
+    }
+
+    // Sets the bytes from an address on.
+    pub fn set_bytes(&mut self, addr: u64, bytes: &[u8])
+        requires from { self.old.low ≤ addr }
+        requires to { addr + length bytes.now ≤ end_of self.old }
+        ensures { self.new ≡ record self.old { bytes = spliced (addr - self.old.low) bytes.now self.old.bytes } }
+    {
+        let place = (addr - self.low) as usize;
+        self.bytes.as_mut_slice()[place..place + bytes.len()].copy_from_slice(bytes);
     }
 
     pub fn number(&self, addr: u64, width: Width) -> u64

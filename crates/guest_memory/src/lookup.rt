@@ -1,0 +1,163 @@
+ghost use Rattle.std.specs.Prelude.{◌≡◌, ◌+◌, ◌<◌, ◌≤◌, ◌^◌, length, true, IsSome, IfOk, IfErr, IfSome, IsNone};
+ghost use Rattle.rv64_decode.specs.Area.{bytes_of, holds, area_at, load_of, fetch_of, store_of, after_store, with_number};
+ghost use Rattle.guest_memory.specs.Layout.{LieFrom, nth_area, IsPlace, IsRefused};
+ghost use Rattle.guest_memory.specs.Words.{word_of};
+
+use crate::piece::Piece;
+use rv64_decode::{MemFault, Width};
+
+// The place of the area that holds an address, by a binary search.
+pub(crate) fn search_for(areas: &[Piece], addr: u64) -> Option<usize>
+    requires { LieFrom 0 areas.now }
+    ensures found { IfSome result (λ i. (i < length areas.now) × (holds (nth_area areas.now i) addr ≡ true)) }
+    ensures none { IsNone result → area_at areas.now addr ≡ None }
+{
+    let mut low = 0;
+    let mut high = areas.len();
+    while low < high {
+        let middle = low + (high - low) / 2;
+        if areas[middle].end() <= addr {
+            low = middle + 1;
+        } else {
+            high = middle;
+        }
+    }
+    if low < areas.len() && areas[low].holds(addr) {
+        Some(low)
+    } else {
+        None
+    }
+}
+
+// The same, where the area that answered last is tried first.
+pub(crate) fn find(areas: &[Piece], last: usize, addr: u64) -> Option<usize>
+    requires { LieFrom 0 areas.now }
+    ensures found { IfSome result (λ i. (i < length areas.now) × (holds (nth_area areas.now i) addr ≡ true)) }
+    ensures none { IsNone result → area_at areas.now addr ≡ None }
+{
+    if last < areas.len() && areas[last].holds(addr) {
+        Some(last)
+    } else {
+        search_for(areas, addr)
+    }
+}
+
+// The place of the area in which an access lies, or why it lies in none.
+pub(crate) fn place_of(
+    areas: &[Piece],
+    last: usize,
+    addr: u64,
+    width: Width,
+) -> Result<usize, MemFault>
+    requires { LieFrom 0 areas.now }
+    ensures placed { IfOk result (λ i. IsPlace areas.now i addr width) }
+    ensures refused { IfErr result (λ fault. IsRefused areas.now addr width fault) }
+{
+    if addr % width.bytes() != 0 {
+        return Err(MemFault::Misaligned);
+    }
+    match find(areas, last, addr) {
+        Some(i) => Ok(i),
+        None => Err(MemFault::Unmapped),
+    }
+}
+
+// What a load answers.
+pub(crate) fn peek_from(
+    areas: &[Piece],
+    last: usize,
+    addr: u64,
+    width: Width,
+) -> Result<u64, MemFault>
+    requires { LieFrom 0 areas.now }
+    ensures answer { result ≡ load_of areas.now addr width }
+    ensures fits { IfOk result (λ n. n < 256 ^ bytes_of width) }
+{
+    let i = place_of(areas, last, addr, width)?;
+    load_at(areas, i, addr, width)
+}
+
+// What a load answers; the area is the one to be tried first from now on.
+pub(crate) fn load_from(
+    areas: &[Piece],
+    last: &mut usize,
+    addr: u64,
+    width: Width,
+) -> Result<u64, MemFault>
+    requires { LieFrom 0 areas.now }
+    ensures answer { result ≡ load_of areas.now addr width }
+    ensures fits { IfOk result (λ n. n < 256 ^ bytes_of width) }
+{
+    let i = place_of(areas, *last, addr, width)?;
+    *last = i;
+    load_at(areas, i, addr, width)
+}
+
+// What a load from an area answers.
+fn load_at(areas: &[Piece], i: usize, addr: u64, width: Width) -> Result<u64, MemFault>
+    requires lie { LieFrom 0 areas.now }
+    requires place { IsPlace areas.now i addr width }
+    ensures answer { result ≡ load_of areas.now addr width }
+    ensures fits { IfOk result (λ n. n < 256 ^ bytes_of width) }
+{
+    let area = &areas[i];
+    if !area.is_readable() {
+        return Err(MemFault::Denied);
+    }
+    Ok(area.number(addr, width))
+}
+
+// The word at an address, whatever the permission.
+pub(crate) fn word_from(areas: &[Piece], last: usize, addr: u64) -> Option<u64>
+    requires { LieFrom 0 areas.now }
+    ensures { result ≡ word_of areas.now addr }
+{
+    match place_of(areas, last, addr, Width::Eight) {
+        Ok(i) => Some(areas[i].number(addr, Width::Eight)),
+        Err(_) => None,
+    }
+}
+
+// Sets the word at an address.
+pub(crate) fn set_word_in(areas: &mut [Piece], last: usize, addr: u64, value: u64)
+    requires lie { LieFrom 0 areas.old }
+    requires there { IsSome (word_of areas.old addr) }
+    ensures after { areas.new ≡ with_number 8 areas.old addr value }
+    ensures lie { LieFrom 0 areas.new }
+{
+    let i = place_of(areas, last, addr, Width::Eight).unwrap();
+    areas[i].set_number(addr, Width::Eight, value);
+}
+
+pub(crate) fn store_to(
+    areas: &mut [Piece],
+    last: &mut usize,
+    addr: u64,
+    width: Width,
+    value: u64,
+) -> Result<(), MemFault>
+    requires { LieFrom 0 areas.old }
+    ensures answer { result ≡ store_of areas.old addr width }
+    ensures after { areas.new ≡ after_store areas.old addr width value }
+    ensures lie { LieFrom 0 areas.new }
+{
+    let i = place_of(areas, *last, addr, width)?;
+    *last = i;
+    if !areas[i].is_writable() {
+        return Err(MemFault::Denied);
+    }
+    areas[i].set_number(addr, width, value);
+    Ok(())
+}
+
+pub(crate) fn fetch_from(areas: &[Piece], code: usize, addr: u64) -> Result<u32, MemFault>
+    requires { LieFrom 0 areas.now }
+    ensures { result ≡ fetch_of areas.now addr }
+{
+    let i = place_of(areas, code, addr, Width::Four)?;
+    let area = &areas[i];
+    if !area.is_executable() {
+        return Err(MemFault::Denied);
+    }
+    Ok(area.number(addr, Width::Four) as u32)
+}
