@@ -1,4 +1,5 @@
--- The rows of the table.
+-- Within an opcode, the function numbers of a word name an operation exactly where the word is in that
+-- operation's row.
 use Rattle.std.proofs.Common.{ℕ, ◌≡◌, Some, arith}
 use Rattle.std.proofs.lemmas.Bool.Decides.{nat_tests}
 use Rattle.rv64_decode.specs.Fields.{opcode, funct3, funct6, funct7}

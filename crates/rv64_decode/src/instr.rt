@@ -91,6 +91,7 @@ pub enum LoadOp {
 
 impl LoadOp {
     /// How many bytes it reads.
+    #[inline]
     pub fn width(self) -> Width
         ensures { result ≡ load_width self }
     {
@@ -114,6 +115,7 @@ pub enum StoreOp {
 
 impl StoreOp {
     /// How many bytes it writes.
+    #[inline]
     pub fn width(self) -> Width
         ensures { result ≡ store_width self }
     {

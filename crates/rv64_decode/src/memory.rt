@@ -25,6 +25,7 @@ pub enum MemFault {
 
 impl Width {
     /// The number of bytes.
+    #[inline]
     pub fn bytes(self) -> u64
         ensures { result ≡ bytes_of self }
     {

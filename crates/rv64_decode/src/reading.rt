@@ -200,6 +200,7 @@ fn immediate(op: ImmOp, word: u32) -> i32
 /// The instruction that a word stands for; `None` for a word outside RV64IM (RISC-V unprivileged
 /// manual, "RV32/64G Instruction Set Listings": RV32I, RV64I, RV32M and RV64M).
 #[tactic(auto, using(crate::proofs::Rows::alu33_forth, crate::proofs::Rows::alu33_back, crate::proofs::Rows::alu3b_forth, crate::proofs::Rows::alu3b_back, crate::proofs::Rows::imm13_forth, crate::proofs::Rows::imm13_back, crate::proofs::Rows::imm1b_forth, crate::proofs::Rows::imm1b_back))]
+#[inline(always)]
 pub fn decode(word: u32) -> Option<Instr>
     ensures table { (i : Instr) → (result ≡ Some i) ↔ Means word i }
     ensures value { result ≡ decoded word }

@@ -19,6 +19,7 @@ impl Model for Reg {
 
 impl Reg {
     /// The register of a number.
+    #[inline]
     pub fn new(number: u8) -> Reg
         requires { number < 32 }
         ensures { result ≡ number }
@@ -27,6 +28,7 @@ impl Reg {
     }
 
     /// The number of the register, as it stands in a word's fields.
+    #[inline]
     pub fn number(&self) -> u8
         ensures number { result ≡ self.now }
         ensures below { result < 32 }
@@ -60,6 +62,7 @@ impl Regs {
     }
 
     /// What a register reads.
+    #[inline]
     pub fn get(&self, r: Reg) -> u64
         ensures { result ≡ register self.now r }
     {
@@ -67,6 +70,7 @@ impl Regs {
     }
 
     /// Writes a register; a write to x0 is dropped.
+    #[inline]
     pub fn set(&mut self, r: Reg, value: u64)
         ensures { self.new ≡ with_register self.old r value }
     {

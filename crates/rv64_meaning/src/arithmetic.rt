@@ -33,6 +33,7 @@ fn from_test(b: bool) -> u64
 }
 
 /// What an operation on two words gives.
+#[inline(always)]
 pub fn alu(op: AluOp, a: u64, b: u64) -> u64
     ensures { result ≡ alu_of op a b }
 {

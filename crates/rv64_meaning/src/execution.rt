@@ -40,6 +40,7 @@ fn jump(target: u64, rd: Reg, pc: u64, regs: &mut Regs) -> Next
 ///
 /// Where the instruction faults, and at `ecall`, which is left to the caller, registers and memory are
 /// as they were.
+#[inline(always)]
 pub fn exec<W: Words>(i: Instr, pc: u64, regs: &mut Regs, mem: &mut W) -> Next
     requires { W.allows mem.old (asks i regs.old) }
     ensures next { result ≡ (outcome i pc regs.old (W.memory mem.old)).next }

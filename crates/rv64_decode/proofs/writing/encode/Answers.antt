@@ -4,6 +4,7 @@ use Rattle.rv64_decode.specs.declared.instr.Instr.{Instr}
 use Rattle.rv64_decode.proofs.Decodes.{means_decoded}
 use Rattle.rv64_decode.proofs.writing.encode.Goals as goal
 
+-- the only word that means the instruction is decoded as it
 if_means : (r : Option ℕ) (i : Instr) → ((w : ℕ) → r ≡ Some w → w < 2 ^ 32)
     → ((w : ℕ) → w < 2 ^ 32 → (r ≡ Some w) ↔ Means w i) → IfSome r (λ w. decoded w ≡ Some i)
 if_means None i fits words = tt
