@@ -1,6 +1,6 @@
 -- The aligned words of areas.
-use Rattle.std.proofs.Common.{◌≡◌, ℕ, suc, ◌+◌, ◌-◌, ◌%◌, ◌==◌, ◌<◌, ◌≤◌, List, [], ◌∷◌, ◌++◌, length, drop, Option, Some, None, Result, Ok, Err, IsSome, IsOk, IfErr, true, false, Bool, cond, refl, ap, arith}
-use Rattle.std.proofs.lemmas.List.{append_assoc, append-nil, at_drop_more}
+use Rattle.std.proofs.Common.{◌≡◌, ℕ, suc, ◌+◌, ◌-◌, ◌%◌, ◌==◌, ◌<◌, ◌≤◌, List, [], ◌∷◌, ◌++◌, length, drop, Option, Some, None, Result, Ok, Err, IsSome, IsOk, IfErr, true, false, Bool, cond, refl, ap, sym, ◌∙◌, arith}
+use Rattle.std.proofs.lemmas.List.{append_assoc, append-nil, at_drop_more, at_drop_all}
 use Rattle.rv64_decode.specs.Area.{Area, area_at, number_at, why_in}
 use Rattle.rv64_decode.specs.declared.memory.Width.TheVariants.{Eight}
 use Rattle.rv64_decode.specs.declared.memory.MemFault.{MemFault}
@@ -51,3 +51,8 @@ pub words-drop : (m : List Area) (i : ℕ) (before next : List (ℕ × ℕ)) →
 words-drop m i before next h e =
     let step : words_of_all m (drop i m) ≡ words_in m (nth_area m i) ++ words_of_all m (drop (i + 1) m) = at_drop_more (words_of_all m) m i no_area h in
     rw (e, step) (append_assoc before (words_in m (nth_area m i)) (words_of_all m (drop (i + 1) m)))
+
+pub words_all : (m : List Area) (i : ℕ) (words : List (ℕ × ℕ)) → length m ≤ i → words ++ words_of_all m (drop i m) ≡ words_of_all m m → words ≡ words_of_all m m
+words_all m i words h e =
+    let none : words_of_all m (drop i m) ≡ [] = at_drop_all (words_of_all m) m i h in
+    sym (append-nil words) ∙ ap (λ (v : List (ℕ × ℕ)). words ++ v) (sym none) ∙ e

@@ -1,4 +1,4 @@
-ghost use Rattle.std.specs.Prelude.{◌≡◌, ◌⊎◌, ◌+◌, ◌-◌, ◌<◌, ◌≤◌, ◌^◌, ◌++◌, ℕ, List, length, take, true, Some, IsSome, IfOk};
+ghost use Rattle.std.specs.Prelude.{◌≡◌, ◌⊎◌, ◌+◌, ◌-◌, ◌<◌, ◌≤◌, ◌^◌, ◌++◌, ℕ, List, length, take, true, Some, IsSome, IfOk, All, Contains};
 ghost use Rattle.rv64_decode.specs.Area.{bytes_of, readable_of, writable_of, load_of, fetch_of, with_number};
 ghost use Rattle.guest_memory.specs.Layout.{LieFrom};
 ghost use Rattle.guest_memory.specs.Spans.{permits, all_permitted, bytes_at, with_bytes_at, all_bytes};
@@ -79,7 +79,9 @@ impl Memory {
 
     /// The aligned 8-byte words of all areas, each with its address, in address order.
     pub fn words(&self, alloc: Global) -> Result<Vec<(u64, u64)>, AllocError>
-        ensures { IfOk result (λ v. v.items ≡ words_of self.now) }
+        ensures listed { IfOk result (λ v. v.items ≡ words_of self.now) }
+        ensures each { IfOk result (λ v. All (λ w. word_of self.now w.0 ≡ Some w.1) v.items) }
+        ensures every { IfOk result (λ v. (x n : ℕ) → word_of self.now x ≡ Some n → Contains v.items (x, n)) }
     {
         words_from(alloc, self.areas.as_slice())
     }

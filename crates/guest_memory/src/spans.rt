@@ -1,9 +1,9 @@
-ghost use Rattle.std.specs.Prelude.{◌≡◌, ◌+◌, ◌<◌, ◌≤◌, ◌^◌, ◌++◌, length, take, true, IfOk, OnOk};
+ghost use Rattle.std.specs.Prelude.{◌≡◌, ◌+◌, ◌<◌, ◌≤◌, ◌^◌, ◌++◌, length, take, true, IfOk, OnOk, All, Contains, Some, ℕ};
 ghost use Rattle.rv64_decode.specs.Area.{readable_of, writable_of};
 ghost use Rattle.guest_memory.specs.Access.{permission_of};
 ghost use Rattle.guest_memory.specs.Layout.{LieFrom, nth_area};
 ghost use Rattle.guest_memory.specs.Spans.{permits, all_permitted, bytes_at, with_bytes_at, all_bytes};
-ghost use Rattle.guest_memory.specs.Words.{words_in, words_of};
+ghost use Rattle.guest_memory.specs.Words.{word_of, words_in, words_of};
 
 use crate::lookup::find;
 use crate::piece::{Access, Piece};
@@ -124,7 +124,9 @@ fn push_words(words: &mut Vec<(u64, u64)>, areas: &[Piece], i: usize) -> Result<
 // The aligned words of all areas, in address order.
 pub(crate) fn words_from(alloc: Global, areas: &[Piece]) -> Result<Vec<(u64, u64)>, AllocError>
     requires { LieFrom 0 areas.now }
-    ensures { IfOk result (λ v. v.items ≡ words_of areas.now) }
+    ensures listed { IfOk result (λ v. v.items ≡ words_of areas.now) }
+    ensures each { IfOk result (λ v. All (λ w. word_of areas.now w.0 ≡ Some w.1) v.items) }
+    ensures every { IfOk result (λ v. (x n : ℕ) → word_of areas.now x ≡ Some n → Contains v.items (x, n)) }
 {
     let mut words = Vec::with_capacity(alloc, total_of(areas) / 8)?;
     for i in 0..areas.len() {

@@ -8,7 +8,13 @@ use std::alloc::{AllocError, Global};
 use std::test::Fail;
 
 // A segment whose file bytes are 0, 1, 2 and so on.
-fn segment(alloc: Global, vaddr: u64, file: u8, memsz: u64, flags: u32) -> Result<Segment, AllocError>
+fn segment(
+    alloc: Global,
+    vaddr: u64,
+    file: u8,
+    memsz: u64,
+    flags: u32,
+) -> Result<Segment, AllocError>
     ensures vaddr { IfOk result (λ s. s.vaddr ≡ vaddr) }
     ensures memsz { IfOk result (λ s. s.memsz ≡ memsz) }
     ensures flags { IfOk result (λ s. s.flags ≡ flags) }
@@ -117,11 +123,23 @@ fn loads_stores_and_fetches(rt: HostRuntime) -> Result<(), Fail> {
     assert_eq!(rt; memory.fetch(0x6000_0000), Err(MemFault::Unmapped));
     assert_eq!(rt; memory.fetch(0x11000), Err(MemFault::Denied));
     assert_eq!(rt; memory.store(0x10000, Width::One, 1), Err(MemFault::Denied));
-    assert_eq!(rt; memory.store(0x6000_0000, Width::One, 1), Err(MemFault::Unmapped));
-    assert_eq!(rt; memory.store(0x11002, Width::Four, 1), Err(MemFault::Misaligned));
-    assert_eq!(rt; memory.store(0x11008, Width::Eight, 0x1122_3344_5566_7788), Ok(()));
+    assert_eq!(rt;
+        memory.store(0x6000_0000, Width::One, 1),
+        Err(MemFault::Unmapped)
+    );
+    assert_eq!(rt;
+        memory.store(0x11002, Width::Four, 1),
+        Err(MemFault::Misaligned)
+    );
+    assert_eq!(rt;
+        memory.store(0x11008, Width::Eight, 0x1122_3344_5566_7788),
+        Ok(())
+    );
     assert_eq!(rt; memory.store(0x1100A, Width::Two, 0xFFFF_ABCD), Ok(()));
-    assert_eq!(rt; memory.load(0x11008, Width::Eight), Ok(0x1122_3344_ABCD_7788));
+    assert_eq!(rt;
+        memory.load(0x11008, Width::Eight),
+        Ok(0x1122_3344_ABCD_7788)
+    );
     assert_eq!(rt; memory.load(0x1100F, Width::One), Ok(0x11));
     assert_eq!(rt; memory.load(0x10001, Width::One), Ok(1));
     Ok(())
@@ -146,7 +164,10 @@ fn words_and_dump(rt: HostRuntime) -> Result<(), Fail> {
     assert_eq!(rt; words.len(), 3_145_749);
     assert_eq!(rt; words.get(20).copied(), Some((0x100A0, 0xA1A0)));
     assert_eq!(rt; words.get(21).copied(), Some((0x11000, 0)));
-    assert_eq!(rt; words.last().copied(), Some((0x7F7F_FFF8, 0x0908_0706_0504_0302)));
+    assert_eq!(rt;
+        words.last().copied(),
+        Some((0x7F7F_FFF8, 0x0908_0706_0504_0302))
+    );
     Ok(())
 }
 
@@ -161,7 +182,10 @@ fn buffers_span_areas(rt: HostRuntime) -> Result<(), Fail> {
     assert!(rt; memory.can_read(0x6000_0000, 0));
     assert!(rt; !memory.can_read(0x10000, u64::MAX));
     assert!(rt; !memory.can_write(u64::MAX, u64::MAX));
-    assert_eq!(rt; memory.peek(0x1000C, Width::Eight), Err(MemFault::Misaligned));
+    assert_eq!(rt;
+        memory.peek(0x1000C, Width::Eight),
+        Err(MemFault::Misaligned)
+    );
     assert!(rt; is_piece(&memory, 0x1000E, 100, &[14, 15]));
     assert!(rt; is_piece(&memory, 0x10010, 3, &[0, 1, 2]));
     assert!(rt; set_bytes(&mut memory, 0x1000E, &[9, 8, 7]));

@@ -1,4 +1,4 @@
-use Rattle.std.proofs.Common.{◌≡◌, ℕ, ap, ◌∙◌, arith}
+use Rattle.std.proofs.Common.{◌≡◌, ℕ, ap, ◌∙◌}
 use Rattle.elf_image.specs.Layout.{LieFrom as SegmentsLieFrom}
 use Rattle.guest_memory.specs.Areas.{areas_of, data_area, heap_size}
 use Rattle.guest_memory.proofs.Loaded.{placed, areas-all, areas-lie}

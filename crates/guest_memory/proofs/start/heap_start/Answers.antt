@@ -1,4 +1,4 @@
-use Rattle.std.proofs.Common.{◌≡◌, ◌≤◌, ℕ, arith}
+use Rattle.std.proofs.Common.{◌≤◌, ℕ, arith}
 use Rattle.elf_image.specs.Layout.{LieFrom as SegmentsLieFrom, load_end}
 use Rattle.guest_memory.proofs.Loaded.{placed, highest_end-le, end-all}
 use Rattle.guest_memory.proofs.start.heap_start.Goals as goal
