@@ -1,5 +1,5 @@
 -- What a command does where the outside does not fail and memory is found.
-use Rattle.std.specs.Prelude.{ℕ, ◌+◌, nat_lt, if◌then◌else◌, List, [], Option, Some, None, Result, Ok, Err, length}
+use Rattle.std.specs.Prelude.{ℕ, Bool, true, false, nat_lt, if◌then◌else◌, List, [], Option, Some, None, Result, Ok, Err, length}
 use Rattle.outside_ports.specs.Ports.{Files}
 use Rattle.elf_image.specs.declared.image.Elf.{Elf}
 use Rattle.elf_image.specs.declared.reading.ElfErr.{ElfErr}
@@ -74,3 +74,15 @@ of_command files input (Some (Run file fuel)) = of_content fuel input (files fil
 -- what the words do, given the store's files and the input
 abbrev pub effect_of : List (List ℕ) → Files → List ℕ → Effect
 effect_of words files input = of_command files input (command_of words)
+
+-- an answer that comes before a run
+abbrev pub is_refusal : Status → Bool
+is_refusal (Exited code) = false
+is_refusal (Faulted kind pc addr) = false
+is_refusal Spent = false
+is_refusal Usage = false
+is_refusal (Refused why) = true
+is_refusal StoreFault = true
+is_refusal ReadFault = false
+is_refusal WriteFault = false
+is_refusal OutOfMemory = true

@@ -1,5 +1,5 @@
 -- The lines of a report.
-use Rattle.std.specs.Prelude.{ℕ, ◌-◌, ◌^◌, false, List, [], ◌∷◌, ◌++◌, codes, decimal}
+use Rattle.std.specs.Prelude.{ℕ, ◌-◌, ◌^◌, false, List, [], ◌∷◌, ◌++◌, codes, decimal, ◌≡◌, ◌⊎◌, Option, Some, take}
 use Rattle.std.specs.Fmt.{digits, padded_integral, format_spec}
 use Rattle.rv64_decode.specs.declared.memory.MemFault.{MemFault}
 use Rattle.rv64_decode.specs.declared.memory.MemFault.TheVariants.{Misaligned, Unmapped, Denied}
@@ -58,3 +58,10 @@ report_of steps StoreFault = line (codes "store-fault")
 report_of steps ReadFault = line (codes "read-fault")
 report_of steps WriteFault = []
 report_of steps OutOfMemory = line (codes "out-of-memory")
+
+-- a first part was written of the report of this answer, or of that to want of memory for it
+pub record IsReportPart (before : List ℕ) (steps : ℕ) (status : Status) (written : Option (List ℕ)) : Type 0 where
+  pub replaced : Status
+  pub is : (replaced ≡ status) ⊎ (replaced ≡ OutOfMemory)
+  pub count : ℕ
+  pub are : written ≡ Some (before ++ take count (report_of steps replaced))

@@ -1,7 +1,6 @@
-ghost use Rattle.std.specs.Prelude.{◌≡◌, ◌+◌, ◌-◌, ◌<◌, ◌≤◌, ◌++◌, ◌⊎◌, ℕ, List, Some, length, take, string_bytes, codes, IfOk, OnOk, OnErr, IsOk, IsErr};
+ghost use Rattle.std.specs.Prelude.{◌≡◌, ◌+◌, ◌-◌, ◌<◌, ◌≤◌, ◌++◌, ◌⊎◌, ◌≢◌, ℕ, List, Some, length, take, string_bytes, codes, IfOk, OnOk, OnErr, IsOk, IsErr};
 ghost use Rattle.outside_ports.specs.Ports.{Rose};
-ghost use Rattle.serial_run.specs.Ports.{IsPrefixOf};
-ghost use Rattle.rewrite_cli.specs.Texts.{report_of, fault_text, why_text, reason_text, count_lines, line, usage_text};
+ghost use Rattle.rewrite_cli.specs.Texts.{report_of, fault_text, why_text, reason_text, count_lines, line, usage_text, IsReportPart};
 
 use crate::status::{Reason, Status};
 use outside_ports::{Failed, Sink};
@@ -116,14 +115,29 @@ pub fn write_all<P: Sink>(report: &mut P, bytes: &[u8]) -> Result<(), Failed>
 
 const OUT_OF_MEMORY: &[u8] = b"out-of-memory\n";
 
+// Writes the report of this answer, and says what the answer is now.
+fn write_answer<P: Sink>(report: &mut P, bytes: &[u8], status: Status) -> Status
+    ensures answer { (result ≡ status) ⊎ (result ≡ Status.WriteFault) }
+    ensures written { (zs : List ℕ) → result ≢ Status.WriteFault → P.written report.old ≡ Some zs → P.written report.new ≡ Some (zs ++ bytes.now) }
+    ensures prefix { (zs : List ℕ) → status ≢ Status.WriteFault → result ≡ Status.WriteFault → P.written report.old ≡ Some zs → (k : ℕ) × (P.written report.new ≡ Some (zs ++ take k bytes.now)) }
+    ensures write_fault { status ≢ Status.WriteFault → result ≡ Status.WriteFault → Rose (P.faults report.old) (P.faults report.new) }
+    ensures never_falls { P.faults report.old ≤ P.faults report.new }
+{
+    match write_all(report, bytes) {
+        Ok(()) => status,
+        Err(_) => Status::WriteFault,
+    }
+}
+
 /// Answers with this status: writes its report, and says what the answer is now. `OutOfMemory` stands
 /// in its place where there is no memory for the report, and `WriteFault` where the report is not
-/// written.
+/// written as a whole.
 pub fn answer<P: Sink>(alloc: Global, report: &mut P, status: Status, steps: u64) -> Status
+    requires { status ≢ Status.WriteFault }
     ensures answer { (result ≡ status) ⊎ ((result ≡ Status.OutOfMemory) ⊎ (result ≡ Status.WriteFault)) }
     ensures reported { (zs : List ℕ) → result ≢ Status.WriteFault → P.written report.old ≡ Some zs → P.written report.new ≡ Some (zs ++ report_of steps result) }
     ensures prefix { (zs : List ℕ) → result ≡ Status.WriteFault → P.written report.old ≡ Some zs → IsReportPart zs steps status (P.written report.new) }
-    ensures write_fault { result ≡ Status.WriteFault → (status ≡ Status.WriteFault) ⊎ Rose (P.faults report.old) (P.faults report.new) }
+    ensures write_fault { result ≡ Status.WriteFault → Rose (P.faults report.old) (P.faults report.new) }
     ensures never_falls { P.faults report.old ≤ P.faults report.new }
 {
     match report_text(alloc, &status, steps) {
