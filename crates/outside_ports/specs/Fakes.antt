@@ -29,8 +29,8 @@ pub record SinkState : Type 0 where
 abbrev pub File : Type 0
 File = List ℕ × List ℕ
 
--- the files by name, the numbers of the calls that fail, the number of the next
--- call, and the count of faults
+-- the files by name, the numbers of the calls that fail, the number of the next call, and the
+-- count of faults
 pub record StoreState : Type 0 where
   pub entries : List File
   pub fails : List ℕ

@@ -1,7 +1,7 @@
-ghost use Rattle.std.specs.Prelude.{◌≡◌, ◌+◌, ◌<◌, ◌≤◌, ℕ, List, None, IfOk, OnOk, OnErr, Some, length, take, ◌++◌};
+ghost use Rattle.std.specs.Prelude.{◌≡◌, ◌<◌, ◌≤◌, ℕ, None, IfOk, OnOk, OnErr, length};
 ghost use Rattle.std.specs.Result.{result_ok};
 ghost use Rattle.outside_ports.specs.Fakes.{next_number};
-ghost use Rattle.outside_ports.specs.Ports.{Moved, Rose};
+ghost use Rattle.outside_ports.specs.Ports.{Rose};
 
 use crate::ports::{Failed, Gate, Sink, Source};
 use std::io::{Error, ErrorKind, Read, Result as IoResult, Write};

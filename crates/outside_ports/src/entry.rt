@@ -1,4 +1,4 @@
-ghost use Rattle.std.specs.Prelude.{◌≡◌, ◌≢◌, ◌↔◌, ◌++◌, ◌⊎◌, ◌<◌, ◌≤◌, ℕ, List, [], ◌∷◌, None, Some, IfSome, IsNone, IsTrue, OnErr, OnOk, length, position};
+ghost use Rattle.std.specs.Prelude.{◌≡◌, ◌↔◌, ◌<◌, None, Some, IfSome, IsNone, OnErr, OnOk, position};
 ghost use Rattle.std.specs.Str.{bytes_eq};
 ghost use Rattle.outside_ports.specs.Fakes.{File, files_of, with_file};
 ghost use Rattle.outside_ports.specs.Ports.{SavedIn};

@@ -1,4 +1,4 @@
-ghost use Rattle.std.specs.Prelude.{◌≡◌, ◌↔◌, ◌++◌, ◌<◌, ◌≤◌, ℕ, List, Some, Contains, IsErr, IfOk, OnErr, drop, length, min, take};
+ghost use Rattle.std.specs.Prelude.{◌≡◌, ◌↔◌, ◌++◌, ◌<◌, ◌≤◌, Some, Contains, IsErr, IfOk, OnErr, drop, length, min, take};
 ghost use Rattle.outside_ports.specs.Fakes.{next_number};
 ghost use Rattle.outside_ports.specs.Ports.{Moved, Rose};
 

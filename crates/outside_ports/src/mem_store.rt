@@ -1,6 +1,6 @@
-ghost use Rattle.std.specs.Prelude.{◌≡◌, ◌≢◌, ◌↔◌, ◌++◌, ◌⊎◌, ◌<◌, ◌≤◌, ℕ, List, [], ◌∷◌, None, Some, Contains, IfOk, IfSome, IsNone, IsErrOf, OnErr, OnOk, length};
-ghost use Rattle.outside_ports.specs.Fakes.{File, files_of, next_number, with_file};
-ghost use Rattle.outside_ports.specs.Ports.{Files, Lacks, PassesLimit, Rose, SameButIn, SavedIn};
+ghost use Rattle.std.specs.Prelude.{◌≡◌, ◌↔◌, ◌⊎◌, ◌<◌, ◌≤◌, [], None, Some, Contains, IfOk, IfSome, IsNone, IsErrOf, OnErr, OnOk, length};
+ghost use Rattle.outside_ports.specs.Fakes.{files_of, next_number, with_file};
+ghost use Rattle.outside_ports.specs.Ports.{Lacks, PassesLimit, Rose, SameButIn, SavedIn};
 
 use crate::calls::Calls;
 use crate::entry::{Entry, find, set};
