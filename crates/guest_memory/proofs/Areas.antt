@@ -1,5 +1,5 @@
 -- What is at an address, by the area in which the address lies.
-use Rattle.std.proofs.Common.{◌≡◌, ◌≢◌, ℕ, zero, suc, ◌+◌, ◌-◌, ◌/◌, ◌%◌, ◌^◌, ◌<◌, ◌≤◌, List, [], ◌∷◌, ◌++◌, length, get_or, take, drop, set, Some, None, true, false, Bool, ◌==◌, Ok, Err, refl, inl, inr, ap, sym, subst, ◌∙◌, arith}
+use Rattle.std.proofs.Common.{◌≡◌, ℕ, zero, suc, ◌+◌, ◌-◌, ◌/◌, ◌%◌, ◌^◌, ◌<◌, ◌≤◌, List, [], ◌∷◌, ◌++◌, length, get_or, take, drop, set, Some, None, true, false, Bool, Ok, Err, refl, inl, inr, ap, sym, subst, ◌∙◌, arith}
 use Rattle.std.proofs.lemmas.List.{get_or-set_same, get_or-drop, drop-set-lt, set-set, set-get_or, length-set, append_assoc, take-append-drop}
 use Rattle.std.proofs.Math.Nat.{div-div-eq-div-mul, div-one, pow-suc}
 use Rattle.std.proofs.Math.Seq.{take-suc-set}
@@ -11,8 +11,8 @@ use Rattle.byteorder.specs.Endian.{little_from, little_number}
 use Rattle.rv64_decode.specs.Area.{bytes_of, why, why_in, readable_of, writable_of, executable_of, load_of, fetch_of, store_of, after_store}
 use Rattle.rv64_decode.specs.declared.memory.Width.{Width}
 use Rattle.rv64_decode.specs.declared.memory.Width.TheVariants.{One, Two, Four, Eight}
-use Rattle.rv64_decode.specs.declared.memory.MemFault.TheVariants.{Misaligned, Unmapped, Denied}
-use Rattle.guest_memory.specs.Layout.{end_of, LieFrom, no_area, nth_area, with_bytes, IsPlace, IsRefused}
+use Rattle.rv64_decode.specs.declared.memory.MemFault.TheVariants.{Denied}
+use Rattle.guest_memory.specs.Layout.{end_of, LieFrom, no_area, nth_area, with_bytes, IsPlace}
 
 pub holds_inside : (a : Area) (x : ℕ) → a.low ≤ x → x < end_of a → holds a x ≡ true
 holds_inside a x h k = grind (arith, nat_tests)
@@ -179,12 +179,6 @@ is_place m i x width lie e h =
       low = inside.0;
       fits = fits_from_alignment width (nth_area m i) x (aligned 0 m i lie h.0) e inside.0 inside.1;
     }
-
-pub refused_misaligned : (m : List Area) (x : ℕ) (width : Width) → x % bytes_of width ≢ 0 → IsRefused m x width Misaligned
-refused_misaligned m x width ne permission = let e : (x % bytes_of width == 0) ≡ false = grind (arith, nat_tests) in rw e refl
-
-pub refused_unmapped : (m : List Area) (x : ℕ) (width : Width) → x % bytes_of width ≡ 0 → area_at m x ≡ None → IsRefused m x width Unmapped
-refused_unmapped m x width e none permission = rw (e, none) refl
 
 pub why-place : (permission : Area → Bool) (m : List Area) (i x : ℕ) (width : Width) → LieFrom 0 m → IsPlace m i x width → why permission m x width ≡ why_in permission (Some (nth_area m i))
 why-place permission m i x width lie p =

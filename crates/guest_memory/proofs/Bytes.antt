@@ -1,8 +1,8 @@
 -- Bytes in a row: which of them are permitted, and what they are after a write.
-use Rattle.std.proofs.Common.{◌≡◌, ℕ, zero, suc, ◌+◌, ◌-◌, ◌<◌, ◌≤◌, ◌^◌, List, [], ◌∷◌, ◌++◌, length, take, drop, set, None, true, false, Bool, ◌&&◌, refl, ap, sym, ◌∙◌, arith, drop-cons}
+use Rattle.std.proofs.Common.{◌≡◌, ℕ, zero, suc, ◌+◌, ◌-◌, ◌<◌, ◌≤◌, ◌^◌, List, [], ◌∷◌, ◌++◌, length, take, drop, set, true, false, Bool, ◌&&◌, refl, ap, sym, ◌∙◌, arith, drop-cons}
 use Rattle.std.proofs.lemmas.List.{length-set, length-drop, length-take-le, length-append, at_drop_more, append_assoc, take-append-drop, drop-set-lt, set-set, set-get_or}
 use Rattle.std.proofs.Math.Seq.{take-suc-set}
-use Rattle.rv64_decode.specs.Area.{Area, holds, area_at, with_byte}
+use Rattle.rv64_decode.specs.Area.{Area, holds, with_byte}
 use Rattle.guest_memory.specs.Layout.{end_of, LieFrom, no_area, nth_area, spliced}
 use Rattle.guest_memory.specs.Spans.{permits, all_permitted, bytes_at, with_bytes_at, all_bytes}
 use Rattle.guest_memory.proofs.Areas.{area_at-nth, byte_at-nth, with_byte-nth, rebytes, LieFrom-set, nth-set}
@@ -54,9 +54,6 @@ pub all_permitted-stops : (p : Area → Bool) (m : List Area) (n x : ℕ) → 0 
 all_permitted-stops p m zero x h e = absurd (omega arith)
 all_permitted-stops p m (suc n) x h e = rw e refl
 
-pub permits-none : (p : Area → Bool) (m : List Area) (x : ℕ) → area_at m x ≡ None → permits p m x ≡ false
-permits-none p m x e = rw e refl
-
 -- the bytes within an area
 pub bytes_at-nth : (n : ℕ) (m : List Area) (i k x : ℕ) → LieFrom 0 m → i < length m → x ≡ (nth_area m i).low + k → k + n ≤ length (nth_area m i).bytes
     → bytes_at n m x ≡ take n (drop k (nth_area m i).bytes)
@@ -67,10 +64,6 @@ bytes_at-nth (suc n) m i k x lie h at fits =
     let rest = bytes_at-nth n m i (suc k) (suc x) lie h (omega arith) (omega arith) in
     let short : k < length (nth_area m i).bytes = omega arith in
     rw (here, place, rest, drop-cons (nth_area m i).bytes k 0) refl
-
-pub length-bytes_at : (n : ℕ) (m : List Area) (x : ℕ) → length (bytes_at n m x) ≡ n
-length-bytes_at zero m x = refl
-length-bytes_at (suc n) m x = ap suc (length-bytes_at n m (suc x))
 
 pub bytes_at-append : (j k t : ℕ) (m : List Area) (x y : ℕ) → t ≡ j + k → y ≡ x + j → bytes_at t m x ≡ bytes_at j m x ++ bytes_at k m y
 bytes_at-append zero k t m x y all at =

@@ -1,6 +1,6 @@
 -- The areas of an executable.
 use Rattle.std.proofs.Common.{◌≡◌, ℕ, zero, suc, ◌+◌, ◌-◌, ◌%◌, ◌^◌, ◌<◌, ◌≤◌, max, List, [], ◌∷◌, ◌++◌, length, get_or, drop, refl, ap, sym, subst, ◌∙◌, arith}
-use Rattle.std.proofs.lemmas.List.{length-append, length-replicate, take-replicate, drop-replicate, append_assoc, at_drop_more, at_drop_all, append-nil}
+use Rattle.std.proofs.lemmas.List.{length-append, length-replicate, take-replicate, drop-replicate, append_assoc, at_drop_all, append-nil}
 use Rattle.elf_image.specs.declared.image.Segment.{Segment}
 use Rattle.elf_image.specs.declared.image.Elf.{Elf}
 use Rattle.elf_image.specs.Layout.{LieFrom as SegmentsLieFrom, IsLoadable, rounded_low, rounded_end, load_end}
@@ -35,13 +35,6 @@ highest_end-le from (s ∷ rest) lie =
     let e = highest_end-le (rounded_end s) rest lie.5 in
     let l = lie.3 in
     omega arith
-
--- over the segments from one of them on
-pub segment_areas-drop : (segments : List Segment) (i : ℕ) (s : Segment) → i < length segments → segment_areas (drop i segments) ≡ segment_area (get_or segments i s) ∷ segment_areas (drop (i + 1) segments)
-segment_areas-drop segments i s h = at_drop_more segment_areas segments i s h
-
-pub highest_end-drop : (segments : List Segment) (i : ℕ) (s : Segment) → i < length segments → highest_end (drop i segments) ≡ max (rounded_end (get_or segments i s)) (highest_end (drop (i + 1) segments))
-highest_end-drop segments i s h = at_drop_more highest_end segments i s h
 
 length-segment_area : (s : Segment) → IsPlaced s → length (segment_area s).bytes ≡ rounded_end s - rounded_low s
 length-segment_area s p =

@@ -1,13 +1,13 @@
 -- The aligned words of areas.
 use Rattle.std.proofs.Common.{◌≡◌, ℕ, suc, ◌+◌, ◌-◌, ◌%◌, ◌==◌, ◌<◌, ◌≤◌, List, [], ◌∷◌, ◌++◌, length, drop, Option, Some, None, Result, Ok, Err, IsSome, IsOk, IfErr, true, false, Bool, cond, refl, ap, sym, ◌∙◌, arith}
-use Rattle.std.proofs.lemmas.List.{append_assoc, append-nil, at_drop_more, at_drop_all}
+use Rattle.std.proofs.lemmas.List.{append_assoc, append-nil, at_drop_all}
 use Rattle.rv64_decode.specs.Area.{Area, area_at, number_at, why_in}
 use Rattle.rv64_decode.specs.declared.memory.Width.TheVariants.{Eight}
 use Rattle.rv64_decode.specs.declared.memory.MemFault.{MemFault}
 use Rattle.rv64_decode.specs.declared.memory.MemFault.TheVariants.{Misaligned}
 use Rattle.byteorder.specs.Endian.{little_number}
-use Rattle.guest_memory.specs.Layout.{end_of, LieFrom, no_area, nth_area, IsPlace, IsRefused}
-use Rattle.guest_memory.specs.Words.{if_in_area, word_of, words_from, words_in, words_of_all}
+use Rattle.guest_memory.specs.Layout.{end_of, LieFrom, nth_area, IsPlace, IsRefused}
+use Rattle.guest_memory.specs.Words.{if_in_area, word_of, words_from, words_of_all}
 use Rattle.guest_memory.proofs.Areas.{aligned, area_at-nth, number_at-place}
 
 word_step : (found : Option Area) (even : Bool) (n : ℕ) (fault : MemFault) → cond even (why_in (λ _. true) found) (Some Misaligned) ≡ Some fault → cond even (if_in_area found n) None ≡ None
@@ -36,21 +36,11 @@ pub words_turn : (m : List Area) (x n k number : ℕ) (before : List (ℕ × ℕ
     → (before ++ (x, number) ∷ []) ++ words_from k m (x + 8) ≡ before ++ words_from n m x
 words_turn m x n k number before more e = rw (more, e) (append_assoc before ((x, number_at 8 m x) ∷ []) (words_from k m (x + 8)))
 
-pub words_end : (m : List Area) (x n : ℕ) (before : List (ℕ × ℕ)) → n ≡ 0 → before ++ words_from n m x ≡ before
-words_end m x n before none = rw none (append-nil before)
-
 -- the place of a word in an area
 pub word_place : (m : List Area) (i x : ℕ) → LieFrom 0 m → i < length m → (nth_area m i).low ≤ x → x < end_of (nth_area m i) → x % 8 ≡ 0 → IsPlace m i x Eight
 word_place m i x lie h l u even =
     let a = aligned 0 m i lie h in
     record { within = h; aligned = even; low = l; fits = omega arith }
-
--- and over areas
-pub words-drop : (m : List Area) (i : ℕ) (before next : List (ℕ × ℕ)) → i < length m → next ≡ before ++ words_in m (nth_area m i)
-    → next ++ words_of_all m (drop (i + 1) m) ≡ before ++ words_of_all m (drop i m)
-words-drop m i before next h e =
-    let step : words_of_all m (drop i m) ≡ words_in m (nth_area m i) ++ words_of_all m (drop (i + 1) m) = at_drop_more (words_of_all m) m i no_area h in
-    rw (e, step) (append_assoc before (words_in m (nth_area m i)) (words_of_all m (drop (i + 1) m)))
 
 pub words_all : (m : List Area) (i : ℕ) (words : List (ℕ × ℕ)) → length m ≤ i → words ++ words_of_all m (drop i m) ≡ words_of_all m m → words ≡ words_of_all m m
 words_all m i words h e =

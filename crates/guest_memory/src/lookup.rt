@@ -129,6 +129,7 @@ pub(crate) fn set_word_in(areas: &mut [Piece], last: usize, addr: u64, value: u6
     areas[i].set_number(addr, Width::Eight, value);
 }
 
+// Makes a store that is not refused; the area is the one to be tried first from now on.
 pub(crate) fn store_to(
     areas: &mut [Piece],
     last: &mut usize,
@@ -150,6 +151,7 @@ pub(crate) fn store_to(
     Ok(())
 }
 
+// What a fetch answers.
 pub(crate) fn fetch_from(areas: &[Piece], code: usize, addr: u64) -> Result<u32, MemFault>
     requires { LieFrom 0 areas.now }
     ensures { result ≡ fetch_of areas.now addr }

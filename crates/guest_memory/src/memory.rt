@@ -15,6 +15,7 @@ use std::marker::Model;
 #[derive(Drop)]
 pub struct Memory {
     areas: Vec<Piece>,
+    // The areas that are tried first: at a load or a store, and at a fetch.
     last: usize,
     code: usize,
 }
