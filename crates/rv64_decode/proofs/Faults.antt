@@ -1,13 +1,12 @@
 -- An instruction that faults changes neither registers nor memory.
 use Rattle.std.proofs.Common.{◌≡◌, ◌==◌, ℕ, ◌-◌, ◌%◌, if◌then◌else◌, Bool, true, false, List, Option, Some, None, Result, Ok, Err, refl}
-use Rattle.rv64_decode.specs.Area.{Area, after_store, store_of, load_of, why, or_refusal, unless_refused, writable_of, with_number, bytes_of}
-use Rattle.rv64_decode.specs.Ask.{answer, after, without_number}
+use Rattle.rv64_decode.specs.Area.{Area, load_of, why, or_refusal, unless_refused, writable_of, with_number, bytes_of}
+use Rattle.rv64_decode.specs.Ask.{after, without_number}
 use Rattle.rv64_decode.specs.Registers.{register, with_register}
-use Rattle.rv64_decode.specs.Row.{asks, outcome, Outcome, onward, stopped, jump, loaded, stored, shifted, taken, store_width, load_width, next_pc}
+use Rattle.rv64_decode.specs.Row.{asks, outcome, Outcome, onward, jump, loaded, stored, shifted, taken, store_width, load_width, next_pc}
 use Rattle.rv64_decode.specs.declared.memory.MemFault.{MemFault}
 use Rattle.rv64_decode.specs.declared.outcome.Fault.{Fault}
-use Rattle.rv64_decode.specs.declared.outcome.Next.{Next}
-use Rattle.rv64_decode.specs.declared.outcome.Next.TheVariants.{At, Call, Fault as Faulting}
+use Rattle.rv64_decode.specs.declared.outcome.Next.TheVariants.{Fault as Faulting}
 use Rattle.rv64_decode.specs.declared.instr.LoadOp.{LoadOp}
 use Rattle.rv64_decode.specs.declared.instr.Instr.{Instr}
 use Rattle.rv64_decode.specs.declared.instr.Instr.TheVariants.{Alu, AluImm, Upper, Load, Store, Branch, Jal, Jalr, Fence, Ecall, Ebreak}

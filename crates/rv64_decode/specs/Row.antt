@@ -170,6 +170,12 @@ pub record Outcome : Type 0 where
   pub next : Next
   pub regs : List ℕ
 
+-- the run does not go on by the instruction alone: a fault, or a call of the environment
+abbrev pub IsStop : Next → Type 0
+IsStop (At addr) = ⊥
+IsStop Call = Unit {0}
+IsStop (Faulting kind addr) = Unit {0}
+
 -- the address after the instruction
 abbrev pub next_pc : ℕ → ℕ
 next_pc pc = (pc + 4) % 2 ^ 64

@@ -2,7 +2,7 @@ ghost use Rattle.std.specs.Prelude.{◌≡◌, ℕ, List};
 ghost use Rattle.rv64_decode.specs.Area.{Area, load_of, store_of, after_store};
 ghost use Rattle.rv64_decode.specs.Ask.{Loads, Stores, answer, after};
 ghost use Rattle.rv64_decode.specs.Registers.{with_register};
-ghost use Rattle.rv64_decode.specs.Row.{asks, outcome, jump as jump_of, next_pc};
+ghost use Rattle.rv64_decode.specs.Row.{asks, outcome, jump as jump_of, next_pc, IsStop};
 
 use crate::arithmetic::{alu, alu_imm, extended, shift, taken, upper};
 use rv64_decode::{Fault, Instr, Next, Reg, Regs, Words};
@@ -25,6 +25,7 @@ fn branch(target: u64) -> Next
 fn jump(target: u64, rd: Reg, pc: u64, regs: &mut Regs) -> Next
     ensures next { result ≡ (jump_of target regs.old (with_register regs.old rd (next_pc pc))).next }
     ensures registers { regs.new ≡ (jump_of target regs.old (with_register regs.old rd (next_pc pc))).regs }
+    ensures stop { IsStop result → regs.new ≡ regs.old }
 {
     if target % 4 != 0 {
         return Next::Fault {
@@ -36,10 +37,8 @@ fn jump(target: u64, rd: Reg, pc: u64, regs: &mut Regs) -> Next
     Next::At(target)
 }
 
-/// Executes one instruction at the address `pc` (RISC-V unprivileged manual, RV64I and M).
-///
-/// Where the instruction faults, and at `ecall`, which is left to the caller, registers and memory are
-/// as they were.
+/// Executes one instruction at the address `pc` (RISC-V unprivileged manual, RV64I and M). `ecall` is
+/// left to the caller.
 #[inline(always)]
 pub fn exec<W: Words>(i: Instr, pc: u64, regs: &mut Regs, mem: &mut W) -> Next
     requires { W.allows mem.old (asks i regs.old) }
@@ -47,6 +46,10 @@ pub fn exec<W: Words>(i: Instr, pc: u64, regs: &mut Regs, mem: &mut W) -> Next
     ensures registers { regs.new ≡ (outcome i pc regs.old (W.memory mem.old)).regs }
     ensures memory { W.memory mem.new ≡ after (W.memory mem.old) (asks i regs.old) }
     ensures moves { W.moves mem.old (asks i regs.old) mem.new }
+
+    // Where the run does not go on by the instruction alone, nothing has changed.
+    ensures stop_registers { IsStop result → regs.new ≡ regs.old }
+    ensures stop_memory { IsStop result → W.memory mem.new ≡ W.memory mem.old }
 {
     match i {
         Instr::Alu { op, rd, rs1, rs2 } => regs.set(rd, alu(op, regs.get(rs1), regs.get(rs2))),
