@@ -1,6 +1,6 @@
 -- What a command does where the outside does not fail and memory is found.
-use Rattle.std.specs.Prelude.{ℕ, Bool, true, false, nat_lt, if◌then◌else◌, List, [], Option, Some, None, Result, Ok, Err, length}
-use Rattle.outside_ports.specs.Ports.{Files}
+use Rattle.std.specs.Prelude.{ℕ, ◌≡◌, ◌⊎◌, ◌++◌, take, Bool, true, false, nat_lt, if◌then◌else◌, List, [], Option, Some, None, Result, Ok, Err, length}
+use Rattle.outside_ports.specs.Ports.{Files, Lacks}
 use Rattle.elf_image.specs.declared.image.Elf.{Elf}
 use Rattle.elf_image.specs.declared.reading.ElfErr.{ElfErr}
 use Rattle.elf_image.specs.declared.reading.ElfErr.TheVariants.{NotElf as NotAnElf, Unbuilt as NotBuilt, OutOfMemory as NoMemory}
@@ -9,6 +9,8 @@ use Rattle.serial_run.specs.Serial.{State, start_of, ended, serial, executed_of}
 use Rattle.serial_run.specs.declared.machine.End.{End}
 use Rattle.serial_run.specs.declared.machine.End.TheVariants.{Exited as DidExit, Faulted as DidFault, Spent as DidSpend, ReadFault as SourceFault, WriteFault as SinkFault}
 use Rattle.rewrite_cli.specs.Words.{Command, Run, command_of}
+use Rattle.rewrite_cli.specs.Status.{is_from_outside}
+use Rattle.rewrite_cli.specs.Texts.{report_of}
 use Rattle.rewrite_cli.specs.declared.status.Reason.{Reason}
 use Rattle.rewrite_cli.specs.declared.status.Reason.TheVariants.{LoadTooLong, NotElf, Unbuilt}
 use Rattle.rewrite_cli.specs.declared.status.Status.{Status}
@@ -86,3 +88,17 @@ is_refusal StoreFault = true
 is_refusal ReadFault = false
 is_refusal WriteFault = false
 is_refusal OutOfMemory = true
+
+-- a file that the command loads is not in a store that tells its files
+abbrev pub LacksFile : Option Command → Option Files → Type 0
+LacksFile None files = ⊥
+LacksFile (Some (Run file fuel)) files = Lacks files file
+
+-- a first part was written of the report of an answer: of the one that the command has, or of one
+-- that the outside or want of memory put in its place
+pub record IsPartOfReport (before : List ℕ) (effect : Effect) (written : Option (List ℕ)) : Type 0 where
+  pub replaced : Status
+  pub steps : ℕ
+  pub is : (is_from_outside replaced ≡ true) ⊎ ((replaced ≡ effect.status) × (steps ≡ effect.steps))
+  pub count : ℕ
+  pub are : written ≡ Some (before ++ take count (report_of steps replaced))

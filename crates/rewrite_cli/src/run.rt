@@ -74,7 +74,7 @@ fn run_elf<I: Source, O: Sink>(alloc: Global, elf: &Elf, fuel: u64, input: &mut 
     ensures steps { (xs : List ℕ) → I.rest input.old ≡ Some xs → is_from_outside result.status ≡ false → result.steps ≡ (ran fuel (start_of elf.now xs)).steps }
     ensures rest { (xs : List ℕ) → I.rest input.old ≡ Some xs → is_from_outside result.status ≡ false → I.rest input.new ≡ Some (ran fuel (start_of elf.now xs)).rest }
     ensures output { (xs ys : List ℕ) → I.rest input.old ≡ Some xs → is_from_outside result.status ≡ false → O.written out.old ≡ Some ys → O.written out.new ≡ Some (ys ++ (ran fuel (start_of elf.now xs)).output) }
-    ensures prefix { (xs ys : List ℕ) → I.rest input.old ≡ Some xs → result.status ≡ Status.WriteFault → O.written out.old ≡ Some ys → IsPrefixOf (O.written out.new) (ys ++ (ran fuel (start_of elf.now xs)).output) }
+    ensures prefix { (xs ys : List ℕ) → I.rest input.old ≡ Some xs → O.written out.old ≡ Some ys → IsPrefixOf (O.written out.new) (ys ++ (ran fuel (start_of elf.now xs)).output) }
     ensures kind { is_early result.status ≡ false }
     ensures read_fault { result.status ≡ Status.ReadFault → Rose (I.faults input.old) (I.faults input.new) }
     ensures write_fault { result.status ≡ Status.WriteFault → Rose (O.faults out.old) (O.faults out.new) }
@@ -125,7 +125,7 @@ pub fn run_file<S: Store, I: Source, O: Sink>(
     ensures steps { (m : Files) (xs : List ℕ) → S.files store.old ≡ Some m → I.rest input.old ≡ Some xs → is_from_outside result.status ≡ false → result.steps ≡ (of_content fuel xs (m file.now)).steps }
     ensures rest { (m : Files) (xs : List ℕ) → S.files store.old ≡ Some m → I.rest input.old ≡ Some xs → is_from_outside result.status ≡ false → I.rest input.new ≡ Some (of_content fuel xs (m file.now)).rest }
     ensures output { (m : Files) (xs ys : List ℕ) → S.files store.old ≡ Some m → I.rest input.old ≡ Some xs → is_from_outside result.status ≡ false → O.written out.old ≡ Some ys → O.written out.new ≡ Some (ys ++ (of_content fuel xs (m file.now)).output) }
-    ensures prefix { (m : Files) (xs ys : List ℕ) → S.files store.old ≡ Some m → I.rest input.old ≡ Some xs → result.status ≡ Status.WriteFault → O.written out.old ≡ Some ys → IsPrefixOf (O.written out.new) (ys ++ (of_content fuel xs (m file.now)).output) }
+    ensures prefix { (m : Files) (xs ys : List ℕ) → S.files store.old ≡ Some m → I.rest input.old ≡ Some xs → O.written out.old ≡ Some ys → IsPrefixOf (O.written out.new) (ys ++ (of_content fuel xs (m file.now)).output) }
 
     ensures no_usage { result.status ≢ Status.Usage }
     ensures store_fault { result.status ≡ Status.StoreFault → Rose (S.faults store.old) (S.faults store.new) ⊎ Lacks (S.files store.old) file.now }
