@@ -1,13 +1,75 @@
 -- What a command does, from its steps.
-use Rattle.std.proofs.Common.{◌≡◌, ℕ, ◌<◌, List, length, Option, Some, None, true, refl, arith, ap}
+use Rattle.std.proofs.Common.{◌≡◌, ◌≢◌, ℕ, ◌<◌, List, [], length, Option, Some, None, Bool, true, false, refl, arith, ap, sym, ◌∙◌, ◌++◌, ◌⊎◌, inl, inr}
+use Rattle.std.proofs.Math.Seq.{take-length, take-append_seam}
+use Rattle.std.proofs.lemmas.List.{append-nil}
 use Rattle.std.proofs.lemmas.Bool.Decides.{nat_tests}
 use Rattle.std.specs.Prelude.{nat_lt}
-use Rattle.outside_ports.specs.Ports.{PassesLimit}
-use Rattle.rewrite_cli.specs.Effect.{of_content, only, load_limit}
+use Rattle.outside_ports.specs.Ports.{Files, PassesLimit}
+use Rattle.serial_run.specs.Ports.{IsPrefixOf}
+use Rattle.rewrite_cli.specs.Effect.{Effect, effect_of, of_command, of_content, only, load_limit, IsPartOfReport}
+use Rattle.rewrite_cli.specs.Status.{is_from_outside}
+use Rattle.rewrite_cli.specs.Texts.{IsReportPart}
 use Rattle.rewrite_cli.specs.declared.status.Reason.TheVariants.{LoadTooLong}
-use Rattle.rewrite_cli.specs.declared.status.Status.TheVariants.{Refused}
+use Rattle.rewrite_cli.specs.declared.status.Status.{Status}
+use Rattle.rewrite_cli.specs.declared.status.Status.TheVariants.{Refused, Usage, OutOfMemory, WriteFault}
+use Rattle.rewrite_cli.specs.Words.{Command, Run, command_of}
 
 pub content_too_long : (content : Option (List ℕ)) (fuel : ℕ) (input : List ℕ) → PassesLimit content load_limit → of_content fuel input content ≡ only (Refused (LoadTooLong load_limit)) input
 content_too_long None fuel input h = absurd h
 content_too_long (Some bytes) fuel input h =
     let long : nat_lt load_limit (length bytes) ≡ true = grind (arith, nat_tests) in rw long refl
+
+-- nothing has gone out of what a command writes
+pub nothing_written : (written : Option (List ℕ)) (before bytes : List ℕ) → written ≡ Some before → IsPrefixOf written (before ++ bytes)
+nothing_written written before bytes e =
+    record { count = length before; are = e ∙ ap (λ (xs : List ℕ). Some xs) (sym (take-append_seam before bytes)) }
+
+-- all of it has
+pub all_written : (written : Option (List ℕ)) (bytes : List ℕ) → written ≡ Some bytes → IsPrefixOf written bytes
+all_written written bytes e =
+    record { count = length bytes; are = e ∙ ap (λ (xs : List ℕ). Some xs) (sym (take-length bytes)) }
+
+-- by whether a port has met a fault
+pub part_or_all : (b : Bool) (written : Option (List ℕ)) (bytes : List ℕ) → (b ≡ true → IsPrefixOf written bytes) → (b ≡ false → written ≡ Some bytes) → IsPrefixOf written bytes
+part_or_all true written bytes part all = part refl
+part_or_all false written bytes part all = all_written written bytes (all refl)
+
+-- ---- answers
+
+-- an answer that is not from outside is the one that was to be given
+pub kept_answer : (answer status : Status) → (answer ≡ status) ⊎ ((answer ≡ OutOfMemory) ⊎ (answer ≡ WriteFault)) → is_from_outside answer ≡ false → answer ≡ status
+kept_answer answer status (inl e) f = e
+kept_answer answer status (inr (inl e)) f = let g = rw e at f in cc
+kept_answer answer status (inr (inr e)) f = let g = rw e at f in cc
+
+pub no_write_fault : (answer : Status) → is_from_outside answer ≡ false → answer ≢ WriteFault
+no_write_fault answer f e = let g = rw e at f in cc
+
+by_test : (b : Bool) (status : Status) (steps : ℕ) (e : Effect) → is_from_outside status ≡ b → (is_from_outside status ≡ false → (status ≡ e.status) × (steps ≡ e.steps))
+    → (is_from_outside status ≡ true) ⊎ ((status ≡ e.status) × (steps ≡ e.steps))
+by_test true status steps e t h = inl t
+by_test false status steps e t h = inr (h t)
+
+replaced_by : (replaced status : Status) (steps : ℕ) (e : Effect) → (replaced ≡ status) ⊎ (replaced ≡ OutOfMemory) → (is_from_outside status ≡ false → (status ≡ e.status) × (steps ≡ e.steps))
+    → (is_from_outside replaced ≡ true) ⊎ ((replaced ≡ e.status) × (steps ≡ e.steps))
+replaced_by replaced status steps e (inl same) h = rw same (by_test (is_from_outside status) status steps e refl h)
+replaced_by replaced status steps e (inr none) h = inl (rw none refl)
+
+-- a first part of the report of an answer
+pub report_part : (before : List ℕ) (steps : ℕ) (status : Status) (e : Effect) (written : Option (List ℕ)) → IsReportPart before steps status written
+    → (is_from_outside status ≡ false → (status ≡ e.status) × (steps ≡ e.steps)) → IsPartOfReport before e written
+report_part before steps status e written p h =
+    record { replaced = p.replaced; steps = steps; is = replaced_by p.replaced status steps e p.is h; count = p.count; are = p.are }
+
+-- nothing of it
+pub nothing_reported : (before : List ℕ) (e : Effect) (written : Option (List ℕ)) → written ≡ Some before → IsPartOfReport before e written
+nothing_reported before e written h =
+    record { replaced = WriteFault; steps = 0; is = inl refl; count = 0; are = h ∙ ap (λ (v : List ℕ). Some v) (sym (append-nil before)) }
+
+-- ---- commands
+
+pub effect_run : (words : List (List ℕ)) (m : Files) (xs : List ℕ) (file : List ℕ) (fuel : ℕ) → command_of words ≡ Some (Run file fuel) → effect_of words m xs ≡ of_content fuel xs (m file)
+effect_run words m xs file fuel e = ap (λ (command : Option Command). of_command m xs command) e
+
+pub effect_none : (words : List (List ℕ)) (m : Files) (xs : List ℕ) → command_of words ≡ None → effect_of words m xs ≡ only Usage xs
+effect_none words m xs e = ap (λ (command : Option Command). of_command m xs command) e

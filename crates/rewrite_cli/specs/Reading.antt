@@ -1,9 +1,9 @@
 -- A command as it stands in the program.
 use Rattle.std.specs.Prelude.{Option, Some, None}
 use Rattle.rewrite_cli.specs.declared.words.Command.{Command}
-use Rattle.rewrite_cli.specs.declared.words.Command.TheVariants.{Run}
+use Rattle.rewrite_cli.specs.declared.words.Command.TheVariants.{Run, Unknown}
 use Rattle.rewrite_cli.specs.Words.{Command as Shown, Run as ShownRun}
 
-abbrev pub command_shown : Option Command → Option Shown
-command_shown None = None
-command_shown (Some (Run file fuel)) = Some (ShownRun file.now fuel)
+abbrev pub command_shown : Command → Option Shown
+command_shown (Run file fuel) = Some (ShownRun file.now fuel)
+command_shown Unknown = None

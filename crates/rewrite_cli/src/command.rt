@@ -1,10 +1,10 @@
 ghost use Rattle.std.specs.Prelude.{◌≡◌, ◌≢◌, ◌≤◌, ◌++◌, ◌⊎◌, ℕ, List, None, Some, true, false, map, string_bytes};
-ghost use Rattle.outside_ports.specs.Ports.{Files, Rose};
+ghost use Rattle.outside_ports.specs.Ports.{Files, Rose, Lacks};
 ghost use Rattle.serial_run.specs.Ports.{IsPrefixOf};
 ghost use Rattle.rewrite_cli.specs.Words.{command_of};
 ghost use Rattle.rewrite_cli.specs.Status.{is_from_outside, is_early};
 ghost use Rattle.rewrite_cli.specs.Texts.{report_of};
-ghost use Rattle.rewrite_cli.specs.Effect.{effect_of, LacksFile, IsPartOfReport};
+ghost use Rattle.rewrite_cli.specs.Effect.{effect_of, of_content, LacksFile, IsPartOfReport};
 
 use crate::report::answer;
 use crate::run::run_file;
@@ -13,6 +13,38 @@ use crate::words::{Command, command_from};
 use outside_ports::{Gate, Sink, Source, Store};
 use std::alloc::Global;
 use std::thread::Threads;
+
+// Runs a file and answers.
+fn run_command<S: Store, I: Source, O: Sink, P: Sink>(
+    alloc: Global,
+    file: &str,
+    fuel: u64,
+    store: &mut S,
+    input: &mut I,
+    out: &mut O,
+    report: &mut P,
+) -> Status
+    ensures answer { (m : Files) (xs : List ℕ) → S.files store.old ≡ Some m → I.rest input.old ≡ Some xs → is_from_outside result ≡ false → result ≡ (of_content fuel xs (m file.now)).status }
+    ensures output { (m : Files) (xs ys : List ℕ) → S.files store.old ≡ Some m → I.rest input.old ≡ Some xs → is_from_outside result ≡ false → O.written out.old ≡ Some ys → O.written out.new ≡ Some (ys ++ (of_content fuel xs (m file.now)).output) }
+    ensures unread { (m : Files) (xs : List ℕ) → S.files store.old ≡ Some m → I.rest input.old ≡ Some xs → is_from_outside result ≡ false → I.rest input.new ≡ Some (of_content fuel xs (m file.now)).rest }
+    ensures report { (m : Files) (xs zs : List ℕ) → S.files store.old ≡ Some m → I.rest input.old ≡ Some xs → is_from_outside result ≡ false → P.written report.old ≡ Some zs → P.written report.new ≡ Some (zs ++ report_of (of_content fuel xs (m file.now)).steps result) }
+    ensures output_so_far { (m : Files) (xs ys : List ℕ) → S.files store.old ≡ Some m → I.rest input.old ≡ Some xs → O.written out.old ≡ Some ys → IsPrefixOf (O.written out.new) (ys ++ (of_content fuel xs (m file.now)).output) }
+    ensures report_of_answer { (zs : List ℕ) → result ≢ Status.WriteFault → P.written report.old ≡ Some zs → (n : ℕ) × (P.written report.new ≡ Some (zs ++ report_of n result)) }
+    ensures report_so_far { (m : Files) (xs zs : List ℕ) → S.files store.old ≡ Some m → I.rest input.old ≡ Some xs → result ≡ Status.WriteFault → P.written report.old ≡ Some zs → IsPartOfReport zs (of_content fuel xs (m file.now)) (P.written report.new) }
+    ensures no_usage { result ≢ Status.Usage }
+    ensures store_fault { result ≡ Status.StoreFault → Rose (S.faults store.old) (S.faults store.new) ⊎ Lacks (S.files store.old) file.now }
+    ensures read_fault { result ≡ Status.ReadFault → Rose (I.faults input.old) (I.faults input.new) }
+    ensures write_fault { result ≡ Status.WriteFault → Rose (O.faults out.old) (O.faults out.new) ⊎ Rose (P.faults report.old) (P.faults report.new) }
+    ensures input_untouched { is_early result ≡ true → input.new ≡ input.old }
+    ensures output_untouched { is_early result ≡ true → out.new ≡ out.old }
+    ensures files_stay { S.files store.new ≡ S.files store.old }
+{
+    let end = run_file(alloc, file, fuel, store, input, out);
+    if end.status == Status::WriteFault {
+        return Status::WriteFault;
+    }
+    answer(alloc, report, end.status, end.steps)
+}
 
 /// Does what the words say, writes the guest's output to `out` and the report to `report`, and
 /// answers how it went. `rt` is lent to running harts, and `gate` is passed by each of them.
@@ -52,13 +84,7 @@ pub fn command<R: Threads + Sync, S: Store, I: Source, O: Sink, P: Sink, G: Gate
     ensures files_stay { S.files store.new ≡ S.files store.old }
 {
     match command_from(words) {
-        None => answer(alloc, report, Status::Usage, 0),
-        Some(Command::Run { file, fuel }) => {
-            let end = run_file(alloc, file, fuel, store, input, out);
-            if end.status == Status::WriteFault {
-                return Status::WriteFault;
-            }
-            answer(alloc, report, end.status, end.steps)
-        }
+        Command::Unknown => answer(alloc, report, Status::Usage, 0),
+        Command::Run { file, fuel } => run_command(alloc, file, fuel, store, input, out, report),
     }
 }

@@ -1,0 +1,48 @@
+use Rattle.std.proofs.Common.{◌≡◌, ◌++◌, ℕ, List, None, Some, Option, refl, ap, sym, ◌∙◌, map, string_bytes}
+use Rattle.rewrite_cli.specs.Words.{command_of}
+use Rattle.rewrite_cli.specs.Reading.{command_shown}
+use Rattle.rewrite_cli.specs.Effect.{Effect}
+use Rattle.rewrite_cli.specs.Texts.{report_of}
+use Rattle.rewrite_cli.specs.declared.words.Command.{Command}
+use Rattle.rewrite_cli.proofs.Effects.{effect_run, effect_none, nothing_written, report_part}
+use Rattle.rewrite_cli.proofs.command.command.Goals as goal
+
+pub returns-in-Unknown-clause-output_so_far : goal.returns-in-Unknown-clause-output_so_far
+returns-in-Unknown-clause-output_so_far g c = λ m xs ys files rest h. nothing_written _ ys _ h
+
+pub returns-in-Unknown-clause-report_so_far : goal.returns-in-Unknown-clause-report_so_far
+returns-in-Unknown-clause-report_so_far g c = λ m xs zs files rest e h.
+    let none = sym c.command_from.ensures ∙ ap command_shown c.in-Unknown.is in
+    rw (effect_none (map string_bytes c.args.words.now) m xs none) (report_part zs 0 _ _ _ (c.answer.ensures.prefix zs e h) (λ f. (refl, refl)))
+
+pub returns-in-Run-clause-answer : goal.returns-in-Run-clause-answer
+returns-in-Run-clause-answer g c = λ m xs files rest f.
+    let run = sym c.command_from.ensures ∙ ap command_shown c.in-Run.is in
+    c.run_command.ensures.answer m xs files rest f ∙ ap (λ (e : Effect). e.status) (sym (effect_run (map string_bytes c.args.words.now) m xs _ _ run))
+
+pub returns-in-Run-clause-output : goal.returns-in-Run-clause-output
+returns-in-Run-clause-output g c = λ m xs ys files rest f h.
+    let run = sym c.command_from.ensures ∙ ap command_shown c.in-Run.is in
+    c.run_command.ensures.output m xs ys files rest f h
+    ∙ ap (λ (e : Effect). Some (ys ++ e.output)) (sym (effect_run (map string_bytes c.args.words.now) m xs _ _ run))
+
+pub returns-in-Run-clause-unread : goal.returns-in-Run-clause-unread
+returns-in-Run-clause-unread g c = λ m xs files rest f.
+    let run = sym c.command_from.ensures ∙ ap command_shown c.in-Run.is in
+    c.run_command.ensures.unread m xs files rest f ∙ ap (λ (e : Effect). Some e.rest) (sym (effect_run (map string_bytes c.args.words.now) m xs _ _ run))
+
+pub returns-in-Run-clause-report : goal.returns-in-Run-clause-report
+returns-in-Run-clause-report g c = λ m xs zs files rest f h.
+    let run = sym c.command_from.ensures ∙ ap command_shown c.in-Run.is in
+    c.run_command.ensures.report m xs zs files rest f h
+    ∙ ap (λ (e : Effect). Some (zs ++ report_of e.steps c.run_command.result)) (sym (effect_run (map string_bytes c.args.words.now) m xs _ _ run))
+
+pub returns-in-Run-clause-output_so_far : goal.returns-in-Run-clause-output_so_far
+returns-in-Run-clause-output_so_far g c = λ m xs ys files rest h.
+    let run = sym c.command_from.ensures ∙ ap command_shown c.in-Run.is in
+    rw (effect_run (map string_bytes c.args.words.now) m xs _ _ run) (c.run_command.ensures.output_so_far m xs ys files rest h)
+
+pub returns-in-Run-clause-report_so_far : goal.returns-in-Run-clause-report_so_far
+returns-in-Run-clause-report_so_far g c = λ m xs zs files rest e h.
+    let run = sym c.command_from.ensures ∙ ap command_shown c.in-Run.is in
+    rw (effect_run (map string_bytes c.args.words.now) m xs _ _ run) (c.run_command.ensures.report_so_far m xs zs files rest e h)
