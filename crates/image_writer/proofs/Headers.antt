@@ -1,8 +1,8 @@
 -- A file with another place and number of program headers.
-use Rattle.std.proofs.Common.{◌≡◌, ℕ, zero, suc, ◌+◌, ◌*◌, ◌^◌, ◌<◌, ◌≤◌, Bool, true, nat_eq, List, [], ◌∷◌, ◌++◌, length, take, drop, get_or, refl, ap, sym, ◌∙◌, arith, append_assoc, length-append}
+use Rattle.std.proofs.Common.{◌≡◌, ℕ, ◌+◌, ◌^◌, ◌<◌, ◌≤◌, nat_eq, List, [], ◌∷◌, ◌++◌, length, take, drop, get_or, refl, ap, sym, ◌∙◌, arith, append_assoc, length-append}
 use Rattle.std.proofs.lemmas.List.{drop-drop, drop_at, take_at, take-take, take-append-le, take-append-drop, length-take-le, length-drop}
 use Rattle.std.specs.Cmp.Lexicographic.{pointwise}
-use Rattle.elf_image.specs.Header.{field, is_elf, file_header}
+use Rattle.elf_image.specs.Header.{field, is_elf}
 use Rattle.image_writer.specs.Image.{number, with_headers}
 use Rattle.image_writer.proofs.Fields.{field-past, field-first, length-number, number-field2, number-field8}
 
@@ -34,9 +34,9 @@ unfolding with_headers
 phnum-with_headers p n o rest h fits =
     rw (append_assoc, append_assoc, append_assoc, append_assoc)
     (field-past 2 32 24 56 (take 32 o) _ (front-length o h) refl
-     ∙ field-past 2 8 16 24 (number 8 p) _ (length-number 8 p) refl
-     ∙ field-past 2 16 0 16 (take 16 (drop 40 o)) _ (middle-length o h) refl
-     ∙ field-first 2 n _ fits)
+    ∙ field-past 2 8 16 24 (number 8 p) _ (length-number 8 p) refl
+    ∙ field-past 2 16 0 16 (take 16 (drop 40 o)) _ (middle-length o h) refl
+    ∙ field-first 2 n _ fits)
 
 pub elf-with_headers : (p n : ℕ) (o rest : List ℕ) → 64 ≤ length o → is_elf (with_headers p n o ++ rest) ≡ is_elf o
 unfolding with_headers

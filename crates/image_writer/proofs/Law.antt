@@ -1,14 +1,13 @@
 -- An image is put together from its parts, and split into them.
-use Rattle.std.proofs.Common.{◌≡◌, ℕ, zero, suc, ◌+◌, ◌-◌, ◌*◌, ◌/◌, ◌^◌, ◌<◌, ◌≤◌, ◌==◌, Bool, true, All, List, [], ◌∷◌, ◌++◌, length, take, drop, replicate, get_or, refl, ap, sym, ◌∙◌, arith, append_assoc, length-append}
+use Rattle.std.proofs.Common.{◌≡◌, ℕ, ◌+◌, ◌-◌, ◌*◌, ◌^◌, ◌<◌, ◌≤◌, true, All, List, ◌++◌, length, take, drop, replicate, get_or, refl, ap, sym, ◌∙◌, arith, append_assoc, length-append}
 use Rattle.std.proofs.lemmas.Bool.{and_from, le-leb, lt-ltb, eq-eqb}
 use Rattle.std.proofs.lemmas.List.{drop_at, take_at, length-take-le, length-drop, length-replicate}
 use Rattle.std.specs.List.{flat_map}
 use Rattle.elf_image.specs.Header.{field, is_elf, file_header, program_header, HasHeaders}
 use Rattle.image_writer.specs.declared.image.Entry.{Entry}
 use Rattle.image_writer.specs.declared.record.Record.{Record}
-use Rattle.image_writer.specs.declared.splitting.Split.{Split}
 use Rattle.image_writer.specs.declared.splitting.Split.TheVariants.{Parts}
-use Rattle.image_writer.specs.Image.{with_headers, mark_kind, mark_bytes, record_bytes, entry_bytes, word_bytes, headers_place, record_place, added_size, record_of, header_bytes, image_bytes, word_limit, IsEntry}
+use Rattle.image_writer.specs.Image.{with_headers, mark_kind, mark_bytes, record_bytes, entry_bytes, word_bytes, headers_place, record_place, added_size, record_of, header_bytes, image_bytes, IsEntry}
 use Rattle.image_writer.specs.Split.{last_header_place, is_marked, marked_bytes, read_record, is_record, IsPossible, entries_from, words_from, parts_of, split_of}
 use Rattle.image_writer.proofs.Fields.{field-past, field-lt}
 use Rattle.image_writer.proofs.Headers.{length-with_headers, phoff-with_headers, phnum-with_headers, elf-with_headers, with_headers-twice, with_headers-own}
@@ -141,8 +140,8 @@ marked-image o es code g =
     ap (λ (p : ℕ). field 4 p img) last ∙ kind-image o es code g in
     and_from _ _
     (and_from _ _
-     (and_from _ _ (and_from _ _ (le-leb 64 _ (omega (arith, size, g.headers.long))) (elf-image o es code g)) (lt-ltb 0 _ (omega (arith, number))))
-     (le-leb _ _ (omega (arith, size, last))))
+    (and_from _ _ (and_from _ _ (le-leb 64 _ (omega (arith, size, g.headers.long))) (elf-image o es code g)) (lt-ltb 0 _ (omega (arith, number))))
+    (le-leb _ _ (omega (arith, size, last))))
     (eq-eqb _ _ kind)
 
 rest-image : (o : List ℕ) (es : List Entry) (code : List ℕ) → IsGiven o es code → marked_bytes (image_bytes o es code) ≡ rest_of o es code

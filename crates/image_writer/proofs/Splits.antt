@@ -1,5 +1,5 @@
 -- What a file is split into, by its tests.
-use Rattle.std.proofs.Common.{◌≡◌, ℕ, ◌+◌, ◌*◌, ◌<◌, ◌≤◌, Bool, true, false, List, [], length, drop, refl, ap, sym, ◌∙◌, arith}
+use Rattle.std.proofs.Common.{◌≡◌, ℕ, ◌<◌, true, false, List, [], length, drop, refl, ap, sym, arith}
 use Rattle.std.proofs.lemmas.List.{drop_all}
 use Rattle.image_writer.specs.declared.splitting.Split.TheVariants.{Plain, BadMark}
 use Rattle.elf_image.specs.Header.{program_header}

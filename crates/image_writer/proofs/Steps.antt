@@ -1,5 +1,5 @@
 -- One entry or word of a list that is read from bytes.
-use Rattle.std.proofs.Common.{◌≡◌, ℕ, zero, suc, ◌+◌, ◌-◌, ◌*◌, ◌<◌, List, [], ◌∷◌, ◌++◌, refl, ap, sym, ◌∙◌, arith, append_assoc}
+use Rattle.std.proofs.Common.{◌≡◌, ℕ, suc, ◌+◌, ◌-◌, ◌*◌, ◌<◌, List, [], ◌∷◌, ◌++◌, refl, ap, sym, ◌∙◌, arith, append_assoc}
 use Rattle.elf_image.specs.Header.{field}
 use Rattle.image_writer.specs.declared.image.Entry.{Entry}
 use Rattle.image_writer.specs.Split.{entries_from, words_from}

@@ -74,9 +74,9 @@ unfoldable pub image_bytes : List ℕ → List Entry → List ℕ → List ℕ
 image_bytes original entries code =
     with_headers (headers_place original) ((file_header original).phnum + 1) original
     ++ (replicate (headers_place original - length original) 0
-        ++ (header_bytes original
-            ++ (mark_bytes (record_place original) (added_size entries code)
-                ++ (record_bytes (record_of original entries code) ++ (flat_map entry_bytes entries ++ flat_map word_bytes code)))))
+    ++ (header_bytes original
+    ++ (mark_bytes (record_place original) (added_size entries code)
+    ++ (record_bytes (record_of original entries code) ++ (flat_map entry_bytes entries ++ flat_map word_bytes code)))))
 
 -- no image has more added words
 abbrev pub word_limit : ℕ

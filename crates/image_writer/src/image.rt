@@ -1,14 +1,14 @@
 ghost use Rattle.std.specs.Prelude.{◌≡◌};
 
+use elf_image::Elf;
 use std::marker::Model;
 
-use elf_image::Elf;
-
-/// Where an image leaves its original: at the word with the address `header` it goes on at the added
-/// word with the address `stub`.
+/// A place at which an image leaves its original for the added code.
 #[derive(Clone, Copy)]
 pub struct Entry {
+    /// The address of the word at which it leaves: the header of a loop.
     pub header: u64,
+    /// The address of the added word at which it goes on: the first of the loop's stub.
     pub stub: u64,
 }
 
@@ -85,10 +85,13 @@ impl Code {
     }
 }
 
-/// An executable with added code. Word i of the code has the address 0x60000000 + 4 * i.
+/// An executable with added code.
 #[derive(Drop)]
 pub struct Image {
+    /// The original.
     pub elf: Elf,
+    /// The entries, by header.
     pub entries: Entries,
+    /// The added words. Word i has the address 0x60000000 + 4 * i.
     pub code: Code,
 }

@@ -4,6 +4,8 @@
 pub mod image;
 pub mod record;
 pub mod splitting;
+#[cfg(test)]
+mod tests;
 pub mod writing;
 
 pub use image::{Code, Entries, Entry, Image};

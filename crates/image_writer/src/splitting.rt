@@ -3,14 +3,12 @@ ghost use Rattle.elf_image.specs.Header.{program_header};
 ghost use Rattle.image_writer.specs.Image.{with_headers};
 ghost use Rattle.image_writer.specs.Split.{is_marked, last_header_place, is_possible, IsPossible, is_record, read_record, entries_from, words_from, split_of};
 
-use std::alloc::{AllocError, Global};
-
-use elf_image::Bytes;
-use elf_image::header::{FileHeader, ProgramHeader, begins_as_elf, field32, field64};
-
 use crate::image::{Code, Entries, Entry};
 use crate::record::Record;
 use crate::writing::{MARK_KIND, push_with_headers};
+use elf_image::Bytes;
+use elf_image::header::{FileHeader, ProgramHeader, begins_as_elf, field32, field64};
+use std::alloc::{AllocError, Global};
 
 /// What a file is as an image.
 #[derive(Drop)]

@@ -5,13 +5,11 @@ ghost use Rattle.image_writer.specs.Image.{number, with_headers, mark_bytes, rec
 ghost use Rattle.image_writer.specs.Split.{split_of};
 ghost use Rattle.image_writer.specs.declared.splitting.Split.{Split};
 
-use std::alloc::{AllocError, Global};
-
-use elf_image::header::FileHeader;
-use thiserror::Error;
-
 use crate::image::Entry;
 use crate::record::Record;
+use elf_image::header::FileHeader;
+use std::alloc::{AllocError, Global};
+use thiserror::Error;
 
 /// The largest number of added words.
 pub const WORD_LIMIT: usize = 4_194_304;

@@ -1,6 +1,5 @@
-use Rattle.std.proofs.Common.{◌≡◌, ◌+◌, ◌*◌, arith, ap, refl}
-use Rattle.image_writer.specs.declared.image.Entry.{Entry}
-use Rattle.image_writer.proofs.Steps.{entry_at, entries_step}
+use Rattle.std.proofs.Common.{◌≡◌, ◌+◌, ◌*◌, arith, refl}
+use Rattle.image_writer.proofs.Steps.{entries_step}
 use Rattle.image_writer.proofs.splitting.copy_entries.Goals as goal
 
 pub loop-i-preserved : goal.loop-i-preserved

@@ -1,10 +1,7 @@
-use Rattle.std.proofs.Common.{◌≡◌, ◌+◌, ◌*◌, ℕ, List, length, take, drop, true, false, ap, refl, sym, ◌∙◌}
-use Rattle.elf_image.specs.Header.{program_header}
-use Rattle.image_writer.specs.declared.splitting.Split.{Split}
+use Rattle.std.proofs.Common.{◌≡◌, ℕ, List, length, false, ap, refl, sym, ◌∙◌}
 use Rattle.image_writer.specs.declared.splitting.Split.TheVariants.{Parts}
 use Rattle.image_writer.specs.declared.record.Record.{Record}
-use Rattle.image_writer.specs.Image.{with_headers}
-use Rattle.image_writer.specs.Split.{is_marked, last_header_place, marked_bytes, is_record, read_record, entries_from, words_from, parts_of}
+use Rattle.image_writer.specs.Split.{marked_bytes, is_record, parts_of}
 use Rattle.image_writer.proofs.Splits.{split-plain, split-bad, split-parts, beyond, marked-at}
 use Rattle.image_writer.proofs.splitting.split_image.Goals as goal
 

@@ -1,4 +1,4 @@
-use Rattle.std.proofs.Common.{◌≡◌, ◌-◌, List, ℕ, length, take, drop, sym, arith, append_assoc}
+use Rattle.std.proofs.Common.{sym, arith, append_assoc}
 use Rattle.std.proofs.lemmas.List.{length-take-le, take_rest}
 use Rattle.image_writer.specs.Image.{with_headers}
 use Rattle.image_writer.proofs.writing.push_with_headers.Goals as goal

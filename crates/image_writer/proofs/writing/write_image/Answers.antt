@@ -1,4 +1,4 @@
-use Rattle.std.proofs.Common.{◌≡◌, ◌+◌, ◌*◌, ◌/◌, ◌<◌, ◌≤◌, ◌^◌, ℕ, List, length, vec_len, ap, sym, ◌∙◌, refl, arith}
+use Rattle.std.proofs.Common.{◌≡◌, ◌+◌, ◌*◌, ◌/◌, ◌<◌, ◌^◌, length, ap, ◌∙◌, refl, arith}
 use Rattle.image_writer.specs.Image.{with_headers, image_bytes}
 use Rattle.image_writer.specs.Split.{split_of}
 use Rattle.image_writer.proofs.Headers.{length-with_headers}
@@ -21,7 +21,7 @@ returns-clause-value c =
 pub returns-clause-splits : goal.returns-clause-splits
 returns-clause-splits c =
     let value = returns-clause-value c in
-    let size : length (image_bytes c.args.original.now c.args.entries.now c.args.code.now) < 2 ^ 64 = (let a = c.push_words.new.out.ok in let b = c.push_words.new.out.small in let e = ap length value in omega arith) in
+    let size : length (image_bytes c.args.original.now c.args.entries.now c.args.code.now) < 2 ^ 64 = omega (arith, ap length value) in
     let given : IsGiven c.args.original.now c.args.entries.now c.args.code.now =
     record { headers = c.requires; bytes = λ i. omega (arith, c.type_inv.original i); entries = c.in_ok-push_entries.ensures.fit; words = λ i. omega (arith, c.type_inv.code i); size = size } in
     ap split_of value ∙ split-image c.args.original.now c.args.entries.now c.args.code.now given
