@@ -123,4 +123,4 @@ early_is bytes b h e = rw (h, e) refl
 
 pub early_headers : (bytes : List ℕ) → is_elf bytes ≡ true → IsEarlyFile bytes (program_header bytes (file_header bytes).phoff) → HasHeaders bytes
 early_headers bytes elf f =
-    record { elf = elf; long = f.long; some = rw f.one (omega arith); within = rw f.one f.within }
+    record { elf = elf; long = f.long; some = rw f.one (omega arith); few = rw f.one (omega arith); within = rw f.one f.within }

@@ -52,9 +52,10 @@ program_headers_from bytes place (suc n) = program_header bytes place ∷ progra
 unfoldable pub program_headers : List ℕ → List ProgramHeader
 program_headers bytes = program_headers_from bytes (file_header bytes).phoff (file_header bytes).phnum
 
--- the file has an ELF header, and then at least one program header, and all of them lie in it
+-- the file has an ELF header and from 1 to 64 program headers, and all of them lie in it
 pub record HasHeaders (bytes : List ℕ) : Type 0 where
   pub elf : is_elf bytes ≡ true
   pub long : 64 ≤ length bytes
   pub some : 1 ≤ (file_header bytes).phnum
+  pub few : (file_header bytes).phnum ≤ 64
   pub within : (file_header bytes).phoff + 56 * (file_header bytes).phnum ≤ length bytes
