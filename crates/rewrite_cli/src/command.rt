@@ -78,7 +78,9 @@ pub fn command<R: Threads + Sync, S: Store, I: Source, O: Sink, P: Sink, G: Gate
     ensures write_fault { result ≡ Status.WriteFault → Rose (O.faults out.old) (O.faults out.new) ⊎ Rose (P.faults report.old) (P.faults report.new) }
 
     // What stays.
-    ensures store_untouched { command_of (map string_bytes words.now) ≡ None → store.new ≡ store.old }
+    ensures store_unasked { command_of (map string_bytes words.now) ≡ None → store.new ≡ store.old }
+    ensures input_unasked { command_of (map string_bytes words.now) ≡ None → input.new ≡ input.old }
+    ensures output_unasked { command_of (map string_bytes words.now) ≡ None → out.new ≡ out.old }
     ensures input_untouched { is_early result ≡ true → input.new ≡ input.old }
     ensures output_untouched { is_early result ≡ true → out.new ≡ out.old }
     ensures files_stay { S.files store.new ≡ S.files store.old }

@@ -1,0 +1,8 @@
+// Rewriting an executable into an image, and the admission of images that are so made.
+#![tactic(auto)]
+
+mod admission;
+mod rewriting;
+
+pub use admission::{AdmitErr, admit};
+pub use rewriting::{RewriteErr, Rewritten, rewrite};
