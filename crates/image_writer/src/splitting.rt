@@ -1,4 +1,4 @@
-ghost use Rattle.std.specs.Prelude.{◌≡◌, ◌+◌, ◌-◌, ◌*◌, ◌<◌, ◌≤◌, ◌++◌, length, take, drop, is_some, IfOk, IfSome, OnOk};
+ghost use Rattle.std.specs.Prelude.{◌≡◌, ◌+◌, ◌*◌, ◌≤◌, length, take, is_some, IfOk, IfSome};
 ghost use Rattle.elf_image.specs.Header.{program_header};
 ghost use Rattle.image_writer.specs.Image.{with_headers};
 ghost use Rattle.image_writer.specs.Split.{is_marked, last_header_place, is_possible, IsPossible, is_record, read_record, entries_from, words_from, split_of};

@@ -1,4 +1,4 @@
-use Rattle.std.proofs.Common.{◌≡◌, List, true, false, ℕ, refl, sym, ap, ◌∙◌}
+use Rattle.std.proofs.Common.{◌∷◌, ◌++◌, [], ◌≡◌, List, true, false, ℕ, refl, sym, ap, ◌∙◌}
 use Rattle.elf_image.specs.declared.reading.ElfErr.TheVariants.{NotElf, Unbuilt}
 use Rattle.elf_image.specs.declared.header.ProgramHeader.{ProgramHeader}
 use Rattle.elf_image.specs.declared.image.Elf.{Elf}
@@ -57,6 +57,10 @@ returns-clause-accepted c =
     early_entry bytes file ∙ sym (rw (c.read-entry.ensures, c.in-Some.ensures.value) at c.is_entry.ensures) ∙ c.if-not-is_entry.false in
     passed bytes (sym c.begins_as_elf.ensures ∙ c.if-not-begins_as_elf.false) (early_is bytes true (sym c.in-Some.ensures.early) entry)
 
+-- what was pushed to an empty list is all
+only_pushed : (out items empty all : List Segment) (s : Segment) → out ≡ items → items ≡ empty ++ s ∷ [] → empty ≡ [] → s ∷ [] ≡ all → out ≡ all
+only_pushed out items empty all s is pushed none one = rw (is, pushed, none) one
+
 same_elf : (a b : ℕ) (xs ys : List Segment) → a ≡ b → xs ≡ ys → ◌≡◌ {A = Elf} (record { entry = a; segments = xs }) (record { entry = b; segments = ys })
 same_elf a b xs ys e f = rw (e, f) refl
 
@@ -67,8 +71,9 @@ returns-clause-value c =
     let segment : c.in_ok-copy_segment.field-0 ≡ segment_of bytes 0 (program_header bytes (file_header bytes).phoff) =
     c.in_ok-copy_segment.ensures ∙ ap (λ (h : ProgramHeader). segment_of bytes 0 h) c.in-Some.ensures.value in
     let entry : c.read-entry.result.entry ≡ (file_header bytes).entry = rw c.read-entry.ensures refl in
+    let one : c.in_ok-copy_segment.field-0 ∷ [] ≡ segments_of bytes = rw (segment, early_segments bytes file) refl in
     let pushed : c.new.result ≡ segments_of bytes =
-    c.new.ensures ∙ c.in_ok-push.ensures.items ∙ rw (c.new-segments.ensures.items, segment, early_segments bytes file) refl in
+    only_pushed _ _ _ _ _ c.new.ensures c.in_ok-push.ensures.items c.new-segments.ensures.items one in
     same_elf _ _ _ _ entry pushed
 
 pub returns-clause-answer : goal.returns-clause-answer
