@@ -8,3 +8,6 @@ mod running;
 pub use laws::{faults_change_nothing, first_ending, output_only_grows};
 pub use machine::{End, Machine};
 pub use running::{Ran, run_counted, run_serial, start, step_serial};
+
+#[cfg(test)]
+mod tests;
