@@ -32,10 +32,6 @@ permitted_rest permission (suc k) (suc n) m addr h l =
     let b : addr + suc k ≡ suc addr + k = omega arith in
     rw (a, b) (permitted_rest permission k n m (suc addr) p.1 (omega arith))
 
-pub permitted_first : (permission : Area → Bool) (n : ℕ) (m : List Area) (addr : ℕ) → all_permitted permission n m addr ≡ true → 0 < n → permits permission m addr ≡ true
-permitted_first permission zero m addr h l = absurd (omega arith)
-permitted_first permission (suc n) m addr h l = (both (permits permission m addr) (all_permitted permission n m (suc addr)) h).0
-
 pub bytes_at_add : (j k : ℕ) (m : List Area) (addr : ℕ) → bytes_at (j + k) m addr ≡ bytes_at j m addr ++ bytes_at k m (addr + j)
 bytes_at_add zero k m addr =
     let a : 0 + k ≡ k = omega arith in let b : addr + 0 ≡ addr = omega arith in rw (a, b) refl
@@ -43,10 +39,6 @@ bytes_at_add (suc j) k m addr =
     let a : suc j + k ≡ suc (j + k) = omega arith in
     let b : addr + suc j ≡ suc addr + j = omega arith in
     rw (a, b) (ap (λ (xs : List ℕ). byte_at m addr ∷ xs) (bytes_at_add j k m (suc addr)))
-
-pub length_bytes_at : (n : ℕ) (m : List Area) (addr : ℕ) → length (bytes_at n m addr) ≡ n
-length_bytes_at zero m addr = refl
-length_bytes_at (suc n) m addr = let rest = length_bytes_at n m (suc addr) in omega arith
 
 pub take_bytes_at : (k n : ℕ) (m : List Area) (addr : ℕ) → k ≤ n → take k (bytes_at n m addr) ≡ bytes_at k m addr
 take_bytes_at zero n m addr l = refl

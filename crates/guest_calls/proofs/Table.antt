@@ -1,10 +1,15 @@
 -- The rows of the table of calls.
 use Rattle.std.proofs.Common.{◌≡◌, ℕ, ◌==◌, Bool, true, ◌||◌, List, [], length, take, drop, refl, ap, sym, ◌∙◌}
 use Rattle.rv64_decode.specs.Area.{Area, readable_of, writable_of}
+use Rattle.rv64_decode.specs.Registers.{register}
 use Rattle.guest_memory.specs.Spans.{all_permitted, bytes_at}
 use Rattle.guest_calls.specs.Calls.{Called, called, a0, a1, a2, a7, bytes_read, bytes_written}
 use Rattle.guest_calls.specs.declared.Brk.{Brk}
 use Rattle.guest_calls.proofs.Spans.{drop_taken}
+
+-- a register that is read by its number
+pub register_read : (regs : List ℕ) (value r n : ℕ) → value ≡ register regs r → r ≡ n → value ≡ register regs n
+register_read regs value r n e f = e ∙ ap (λ (k : ℕ). register regs k) f
 
 pub written_call : (regs : List ℕ) (memory : List Area) (brk : Brk) (rest : List ℕ) → a7 regs ≡ 64 → (called regs memory brk rest).written ≡ bytes_written (a0 regs) (a1 regs) (a2 regs) memory
 unfolding called

@@ -33,3 +33,6 @@ pub enum PortFault {
     /// The sink did, in a write.
     Write,
 }
+
+#[cfg(test)]
+mod tests;

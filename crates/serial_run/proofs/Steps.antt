@@ -29,10 +29,6 @@ pub serial-ended : (n : ℕ) (s : State) → is_some (ended s) ≡ true → seri
 serial-ended zero s h = refl
 serial-ended (suc n) s h = rw (step_of_ended s h) (serial-ended n s h)
 
--- one instruction of those that are left
-pub one_less : (n k : ℕ) (s : State) → k < n → serial (n - k) s ≡ serial (n - (k + 1)) (step s)
-one_less n k s h = let e : n - k ≡ suc (n - (k + 1)) = omega arith in ap (λ (j : ℕ). serial j s) e
-
 -- n instructions and then one more
 pub serial-suc : (n : ℕ) (s : State) → serial (suc n) s ≡ step (serial n s)
 serial-suc zero s = refl
@@ -161,6 +157,14 @@ grows_on xs ys zs a b =
 serial_output : (n : ℕ) (s : State) → Grows s.output (serial n s).output
 serial_output zero s = same_output s.output
 serial_output (suc n) s = grows_on s.output (step s).output (serial n (step s)).output (step_output s) (serial_output n (step s))
+
+-- the output after more instructions
+pub output_more : (n m : ℕ) (s : State) → n ≤ m → Grows (serial n s).output (serial m s).output
+output_more n m s l =
+    let e : n + (m - n) ≡ m = omega arith in
+    let all : serial m s ≡ serial (m - n) (serial n s) = ap (λ (k : ℕ). serial k s) (sym e) ∙ serial-add n (m - n) s in
+    let grown = serial_output (m - n) (serial n s) in
+    record { more = grown.more; are = ap (λ (t : State). t.output) all ∙ grown.are }
 
 -- a first part of what one instruction more has written is one of what all of them write
 pub prefix_of_all : (k fuel : ℕ) (s : State) (written : Option (List ℕ)) → k < fuel → IsPrefixOf written (step (serial k s)).output → IsPrefixOf written (serial fuel s).output

@@ -1,8 +1,13 @@
 // The serial machine: one hart runs an executable to its ending.
 #![tactic(auto)]
 
+mod laws;
 mod machine;
 mod running;
 
+pub use laws::{faults_change_nothing, first_ending, output_only_grows};
 pub use machine::{End, Machine};
 pub use running::{Ran, run_counted, run_serial, start, step_serial};
+
+#[cfg(test)]
+mod tests;

@@ -46,6 +46,8 @@ fn answer_call<I: Source, O: Sink>(m: &mut Machine, input: &mut I, out: &mut O)
     ensures rest { (xs : List ℕ) → I.rest input.old ≡ Some xs → is_port_fault m.new.ended ≡ false → I.rest input.new ≡ Some (called m.old.regs m.old.memory m.old.brk xs).rest }
     ensures output { (xs ys : List ℕ) → I.rest input.old ≡ Some xs → is_port_fault m.new.ended ≡ false → O.written out.old ≡ Some ys → O.written out.new ≡ Some (answered (state_of m.old ys xs) (called m.old.regs m.old.memory m.old.brk xs)).output }
     ensures prefix { (xs ys : List ℕ) → is_port_fault m.new.ended ≡ true → O.written out.old ≡ Some ys → IsPrefixOf (O.written out.new) (ys ++ (called m.old.regs m.old.memory m.old.brk xs).written) }
+    ensures aligned { m.old.pc % 4 ≡ 0 → m.new.pc % 4 ≡ 0 }
+    ensures open { m.new.ended ≢ Some End.Spent }
     ensures read_fault { m.new.ended ≡ Some End.ReadFault → Rose (I.faults input.old) (I.faults input.new) }
     ensures write_fault { m.new.ended ≡ Some End.WriteFault → Rose (O.faults out.old) (O.faults out.new) }
     ensures input_never_falls { I.faults input.old ≤ I.faults input.new }
@@ -66,6 +68,8 @@ fn perform<I: Source, O: Sink>(m: &mut Machine, i: Instr, input: &mut I, out: &m
     ensures rest { (xs ys : List ℕ) → I.rest input.old ≡ Some xs → is_port_fault m.new.ended ≡ false → I.rest input.new ≡ Some (performed (state_of m.old ys xs) i).rest }
     ensures output { (xs ys : List ℕ) → I.rest input.old ≡ Some xs → is_port_fault m.new.ended ≡ false → O.written out.old ≡ Some ys → O.written out.new ≡ Some (performed (state_of m.old ys xs) i).output }
     ensures prefix { (xs ys : List ℕ) → is_port_fault m.new.ended ≡ true → O.written out.old ≡ Some ys → IsPrefixOf (O.written out.new) (performed (state_of m.old ys xs) i).output }
+    ensures aligned { m.old.pc % 4 ≡ 0 → m.new.pc % 4 ≡ 0 }
+    ensures open { m.new.ended ≢ Some End.Spent }
     ensures read_fault { m.new.ended ≡ Some End.ReadFault → Rose (I.faults input.old) (I.faults input.new) }
     ensures write_fault { m.new.ended ≡ Some End.WriteFault → Rose (O.faults out.old) (O.faults out.new) }
     ensures input_never_falls { I.faults input.old ≤ I.faults input.new }
@@ -87,6 +91,8 @@ fn advance<I: Source, O: Sink>(m: &mut Machine, input: &mut I, out: &mut O)
     ensures rest { (xs ys : List ℕ) → I.rest input.old ≡ Some xs → is_port_fault m.new.ended ≡ false → I.rest input.new ≡ Some (step (state_of m.old ys xs)).rest }
     ensures output { (xs ys : List ℕ) → I.rest input.old ≡ Some xs → is_port_fault m.new.ended ≡ false → O.written out.old ≡ Some ys → O.written out.new ≡ Some (step (state_of m.old ys xs)).output }
     ensures prefix { (xs ys : List ℕ) → is_port_fault m.new.ended ≡ true → O.written out.old ≡ Some ys → IsPrefixOf (O.written out.new) (step (state_of m.old ys xs)).output }
+    ensures aligned { m.old.pc % 4 ≡ 0 → m.new.pc % 4 ≡ 0 }
+    ensures open { m.new.ended ≢ Some End.Spent }
     ensures read_fault { m.new.ended ≡ Some End.ReadFault → Rose (I.faults input.old) (I.faults input.new) }
     ensures write_fault { m.new.ended ≡ Some End.WriteFault → Rose (O.faults out.old) (O.faults out.new) }
     ensures input_never_falls { I.faults input.old ≤ I.faults input.new }
@@ -116,6 +122,8 @@ pub fn step_serial<I: Source, O: Sink>(m: &mut Machine, input: &mut I, out: &mut
     ensures stays { IsSome m.old.ended → m.new ≡ m.old }
     ensures input_stays { IsSome m.old.ended → input.new ≡ input.old }
     ensures output_stays { IsSome m.old.ended → out.new ≡ out.old }
+    ensures aligned { m.old.pc % 4 ≡ 0 → m.new.pc % 4 ≡ 0 }
+    ensures open { m.old.ended ≢ Some End.Spent → m.new.ended ≢ Some End.Spent }
     ensures read_fault { m.new.ended ≡ Some End.ReadFault → (m.old.ended ≡ Some End.ReadFault) ⊎ Rose (I.faults input.old) (I.faults input.new) }
     ensures write_fault { m.new.ended ≡ Some End.WriteFault → (m.old.ended ≡ Some End.WriteFault) ⊎ Rose (O.faults out.old) (O.faults out.new) }
     ensures input_never_falls { I.faults input.old ≤ I.faults input.new }
@@ -145,6 +153,8 @@ fn count_steps<I: Source, O: Sink>(m: &mut Machine, fuel: u64, input: &mut I, ou
     ensures output { (s : State) → m.old ≡ s.machine → I.rest input.old ≡ Some s.rest → is_port_fault m.new.ended ≡ false → O.written out.old ≡ Some s.output → O.written out.new ≡ Some (serial fuel s).output }
     ensures prefix { (s : State) → m.old ≡ s.machine → I.rest input.old ≡ Some s.rest → IsNone m.old.ended → is_port_fault m.new.ended ≡ true → O.written out.old ≡ Some s.output → IsPrefixOf (O.written out.new) (serial fuel s).output }
 
+    ensures aligned { m.old.pc % 4 ≡ 0 → m.new.pc % 4 ≡ 0 }
+    ensures open { m.old.ended ≢ Some End.Spent → m.new.ended ≢ Some End.Spent }
     ensures read_fault { m.new.ended ≡ Some End.ReadFault → (m.old.ended ≡ Some End.ReadFault) ⊎ Rose (I.faults input.old) (I.faults input.new) }
     ensures write_fault { m.new.ended ≡ Some End.WriteFault → (m.old.ended ≡ Some End.WriteFault) ⊎ Rose (O.faults out.old) (O.faults out.new) }
     ensures input_never_falls { I.faults input.old ≤ I.faults input.new }
@@ -176,6 +186,8 @@ pub fn run_counted<I: Source, O: Sink>(m: &mut Machine, fuel: u64, input: &mut I
     ensures output { (s : State) (before : List ℕ) → m.old ≡ s.machine → I.rest input.old ≡ Some s.rest → is_port_fault m.new.ended ≡ false → O.written out.old ≡ Some (before ++ s.output) → O.written out.new ≡ Some (before ++ (serial fuel s).output) }
     ensures prefix { (s : State) (before : List ℕ) → m.old ≡ s.machine → I.rest input.old ≡ Some s.rest → IsNone m.old.ended → is_port_fault m.new.ended ≡ true → O.written out.old ≡ Some (before ++ s.output) → IsPrefixOf (O.written out.new) (before ++ (serial fuel s).output) }
 
+    ensures aligned { m.old.pc % 4 ≡ 0 → m.new.pc % 4 ≡ 0 }
+    ensures open { m.old.ended ≢ Some End.Spent → m.new.ended ≢ Some End.Spent }
     ensures read_fault { m.new.ended ≡ Some End.ReadFault → (m.old.ended ≡ Some End.ReadFault) ⊎ Rose (I.faults input.old) (I.faults input.new) }
     ensures write_fault { m.new.ended ≡ Some End.WriteFault → (m.old.ended ≡ Some End.WriteFault) ⊎ Rose (O.faults out.old) (O.faults out.new) }
     ensures input_never_falls { I.faults input.old ≤ I.faults input.new }
@@ -193,6 +205,8 @@ pub fn run_serial<I: Source, O: Sink>(m: &mut Machine, fuel: u64, input: &mut I,
     ensures output { (s : State) (before : List ℕ) → m.old ≡ s.machine → I.rest input.old ≡ Some s.rest → is_port_fault m.new.ended ≡ false → O.written out.old ≡ Some (before ++ s.output) → O.written out.new ≡ Some (before ++ (serial fuel s).output) }
     ensures prefix { (s : State) (before : List ℕ) → m.old ≡ s.machine → I.rest input.old ≡ Some s.rest → IsNone m.old.ended → is_port_fault m.new.ended ≡ true → O.written out.old ≡ Some (before ++ s.output) → IsPrefixOf (O.written out.new) (before ++ (serial fuel s).output) }
 
+    ensures aligned { m.old.pc % 4 ≡ 0 → m.new.pc % 4 ≡ 0 }
+    ensures open { m.old.ended ≢ Some End.Spent → m.new.ended ≢ Some End.Spent }
     ensures read_fault { m.new.ended ≡ Some End.ReadFault → (m.old.ended ≡ Some End.ReadFault) ⊎ Rose (I.faults input.old) (I.faults input.new) }
     ensures write_fault { m.new.ended ≡ Some End.WriteFault → (m.old.ended ≡ Some End.WriteFault) ⊎ Rose (O.faults out.old) (O.faults out.new) }
     ensures input_never_falls { I.faults input.old ≤ I.faults input.new }

@@ -76,6 +76,7 @@ loop-k-preserved g c =
         ∙ ap (λ (t : State). Some t.output) (serial_next c.loop-k.k s);
       first = λ s e h.
         below_more _ c.loop-k.k (c.loop-k.invariant.first s e h) (none_ended (serial c.loop-k.k s) c.loop-k.m (c.loop-k.invariant.machine s e h) c.loop-k.invariant.running);
+      aligned = λ h. c.in_default-step_serial.ensures.aligned (c.loop-k.invariant.aligned h);
       input_faults = omega (arith, c.in_default-step_serial.ensures.input_never_falls);
       output_faults = omega (arith, c.in_default-step_serial.ensures.output_never_falls);
     }
