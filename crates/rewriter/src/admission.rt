@@ -1,6 +1,9 @@
-ghost use Rattle.std.specs.Prelude.{◌≡◌, ◌<◌, ◌≤◌, ℕ, length, take, drop, IfOk, IfErr};
+ghost use Rattle.std.specs.Prelude.{◌≡◌, ◌<◌, ◌≤◌, ℕ, List, length, take, drop, IfOk, IfErr};
 ghost use Rattle.rewriter.specs.Rewriting.{rewritten_of};
+ghost use Rattle.elf_image.specs.Layout.{IsLoadable};
 ghost use Rattle.elf_image.specs.Reading.{reading_of};
+ghost use Rattle.image_writer.specs.declared.image.Entry.{Entry};
+ghost use Rattle.image_writer.specs.Split.{split_of};
 ghost use Rattle.image_writer.specs.declared.splitting.Split.TheVariants.{Parts};
 ghost use Rattle.rewriter.specs.Admission.{first_difference, admission_of, parts_by, plain_by, Admitted, IsRefusal};
 
@@ -43,6 +46,7 @@ fn difference(made: &[u8], given: &[u8]) -> Option<usize>
 // Admits the parts of a file, where it is the image of its original part.
 fn admit_parts(alloc: Global, bytes: &[u8], original: Bytes, entries: Entries, code: Code) -> Result<Image, AdmitErr>
     ensures admitted { IfOk result (λ image. parts_by bytes.now original entries code (reading_of original) ≡ Admitted image) }
+    ensures loadable { IfOk result (λ image. IsLoadable image.elf) }
     ensures refused { IfErr result (IsRefusal (parts_by bytes.now original entries code (reading_of original))) }
 {
     let elf = match read(alloc, original.as_slice()) {
@@ -64,6 +68,7 @@ fn admit_parts(alloc: Global, bytes: &[u8], original: Bytes, entries: Entries, c
 // Admits a file without a mark.
 fn admit_plain(alloc: Global, bytes: &[u8]) -> Result<Image, AdmitErr>
     ensures admitted { IfOk result (λ image. plain_by (reading_of bytes.now) ≡ Admitted image) }
+    ensures loadable { IfOk result (λ image. IsLoadable image.elf) }
     ensures refused { IfErr result (IsRefusal (plain_by (reading_of bytes.now))) }
 {
     match read(alloc, bytes) {
@@ -81,7 +86,11 @@ fn admit_plain(alloc: Global, bytes: &[u8]) -> Result<Image, AdmitErr>
 /// that is exactly that of its original part.
 pub fn admit(alloc: Global, bytes: &[u8]) -> Result<Image, AdmitErr>
     ensures admitted { IfOk result (λ image. admission_of bytes.now ≡ Admitted image) }
+    ensures loadable { IfOk result (λ image. IsLoadable image.elf) }
     ensures refused { IfErr result (IsRefusal (admission_of bytes.now)) }
+
+    // A marked file that is admitted is the image of its original part.
+    ensures image { IfOk result (λ image. (original : List ℕ) (entries : List Entry) (code : List ℕ) → split_of bytes.now ≡ Parts original entries code → (rewritten_of original image.elf).bytes ≡ bytes.now) }
 {
     match split_image(alloc, bytes) {
         Ok(Split::Plain) => admit_plain(alloc, bytes),
@@ -90,7 +99,10 @@ pub fn admit(alloc: Global, bytes: &[u8]) -> Result<Image, AdmitErr>
             original,
             entries,
             code,
-        }) => admit_parts(alloc, bytes, original, entries, code),
+        }) => match admit_parts(alloc, bytes, original, entries, code) {
+            Ok(image) => Ok(image),
+            Err(e) => Err(e),
+        },
         Err(_) => Err(AdmitErr::OutOfMemory),
     }
 }

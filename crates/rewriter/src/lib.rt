@@ -3,6 +3,8 @@
 
 mod admission;
 mod rewriting;
+#[cfg(test)]
+mod tests;
 
 pub use admission::{AdmitErr, admit};
 pub use rewriting::{RewriteErr, Rewritten, rewrite};

@@ -1,0 +1,64 @@
+use crate::{AdmitErr, RewriteErr, admit, rewrite};
+use elf_image::ElfErr;
+use std::alloc::{AllocError, Global};
+use std::process::Abort;
+use std::test::Fail;
+
+// An executable of 128 bytes: its headers, and the words of an exit with code 0.
+const FILE: [u8; 128] = [
+    0x7F, 0x45, 0x4C, 0x46, 2, 1, 1, 0, 0, 0, 0, 0, 0, 0, 0, 0, // e_ident
+    2, 0, 243, 0, 1, 0, 0, 0, 0x78, 0, 1, 0, 0, 0, 0, 0, // type, machine, version, entry
+    64, 0, 0, 0, 0, 0, 0, 0, 0, 0, 0, 0, 0, 0, 0, 0, // phoff, shoff
+    0, 0, 0, 0, 64, 0, 56, 0, 1, 0, 0, 0, 0, 0, 0, 0, // flags, sizes and numbers
+    1, 0, 0, 0, 5, 0, 0, 0, 0, 0, 0, 0, 0, 0, 0, 0, // type, flags, offset
+    0, 0, 1, 0, 0, 0, 0, 0, 0, 0, 1, 0, 0, 0, 0, 0, // vaddr, paddr
+    128, 0, 0, 0, 0, 0, 0, 0, 128, 0, 0, 0, 0, 0, 0, 0, // filesz, memsz
+    0, 16, 0, 0, 0, 0, 0, 0, 0x93, 0x08, 0xD0, 0x05, 0x73, 0, 0, 0, // align, words
+];
+
+// The image of that executable, with one byte changed.
+fn changed(alloc: Global, place: usize, byte: u8) -> Result<Vec<u8>, Fail> {
+    let made = rewrite(alloc, &FILE)?;
+    let mut bytes = made.bytes.into_vec();
+    if place < bytes.len() {
+        bytes[place] = byte;
+    } else {
+        bytes.push(byte)?;
+    }
+    Ok(bytes)
+}
+
+#[test]
+fn an_image_without_entries_has_288_bytes(rt: HostRuntime) -> Result<(), Fail> {
+    let made = rewrite(rt.alloc(), &FILE)?;
+    assert!(rt; made.bytes.as_slice().len() == 288);
+    assert!(rt; made.entries == 0 && made.words == 0);
+    let image = admit(rt.alloc(), made.bytes.as_slice())?;
+    assert!(rt; image.elf.entry == 0x10078);
+    assert!(rt; image.entries.as_slice().is_empty() && image.code.as_slice().is_empty());
+    Ok(())
+}
+
+#[test]
+fn an_executable_without_a_mark_is_admitted(rt: HostRuntime) -> Result<(), Fail> {
+    let image = admit(rt.alloc(), &FILE)?;
+    assert!(rt; image.elf.entry == 0x10078);
+    Ok(())
+}
+
+#[test]
+fn other_files_are_not_admitted(rt: HostRuntime) -> Result<(), Fail> {
+    let alloc = rt.alloc();
+    let altered = changed(alloc, 188, 3)?;
+    assert!(rt; admit(alloc, altered.as_slice()).err() == Some(AdmitErr::Altered { offset: 188 }));
+    let longer = changed(alloc, 288, 0)?;
+    assert!(rt; admit(alloc, longer.as_slice()).err() == Some(AdmitErr::Altered { offset: 288 }));
+    let version = changed(alloc, 244, 3)?;
+    assert!(rt; admit(alloc, version.as_slice()).err() == Some(AdmitErr::BadMark));
+    let whole = changed(alloc, 0, 0x7F)?;
+    assert!(rt; whole.len() == 288);
+    assert!(rt; admit(alloc, &whole.as_slice()[..287]).err() == Some(AdmitErr::BadMark));
+    assert!(rt; rewrite(alloc, whole.as_slice()).err() == Some(RewriteErr::Elf(ElfErr::Unbuilt)));
+    assert!(rt; admit(alloc, b"").err() == Some(AdmitErr::Original(RewriteErr::Elf(ElfErr::NotElf))));
+    Ok(())
+}
