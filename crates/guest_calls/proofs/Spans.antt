@@ -1,8 +1,8 @@
 -- Bytes in a row, in two parts.
-use Rattle.std.proofs.Common.{◌≡◌, ℕ, zero, suc, ◌+◌, ◌-◌, ◌<◌, ◌≤◌, ◌++◌, List, [], ◌∷◌, length, take, drop, Bool, true, false, ◌&&◌, refl, ap, sym, ◌∙◌, arith, min}
+use Rattle.std.proofs.Common.{◌≡◌, ℕ, zero, suc, ◌+◌, ◌-◌, ◌≤◌, ◌++◌, List, [], ◌∷◌, length, take, drop, Bool, true, false, ◌&&◌, refl, ap, sym, ◌∙◌, arith, min}
 use Rattle.std.proofs.lemmas.List.{length-take, length-drop, take_all, drop_all, append-nil, append_assoc}
 use Rattle.rv64_decode.specs.Area.{Area, byte_at}
-use Rattle.guest_memory.specs.Spans.{permits, all_permitted, bytes_at, with_bytes_at}
+use Rattle.guest_memory.specs.Spans.{permits, all_permitted, bytes_at}
 
 both : (a b : Bool) → (a && b) ≡ true → (a ≡ true) × (b ≡ true)
 both true b h = (refl, h)

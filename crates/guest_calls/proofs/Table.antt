@@ -1,9 +1,9 @@
 -- The rows of the table of calls.
-use Rattle.std.proofs.Common.{◌≡◌, ℕ, ◌==◌, Bool, true, ◌||◌, List, [], length, take, drop, refl, ap, sym, ◌∙◌}
+use Rattle.std.proofs.Common.{◌≡◌, ℕ, ◌==◌, true, ◌||◌, List, length, drop, refl, ap, sym, ◌∙◌}
 use Rattle.rv64_decode.specs.Area.{Area, readable_of, writable_of}
 use Rattle.rv64_decode.specs.Registers.{register}
 use Rattle.guest_memory.specs.Spans.{all_permitted, bytes_at}
-use Rattle.guest_calls.specs.Calls.{Called, called, a0, a1, a2, a7, bytes_read, bytes_written}
+use Rattle.guest_calls.specs.Calls.{called, a0, a1, a2, a7, bytes_read, bytes_written}
 use Rattle.guest_calls.specs.declared.Brk.{Brk}
 use Rattle.guest_calls.proofs.Spans.{drop_taken}
 

@@ -1,6 +1,6 @@
 -- What a call of the guest's environment does. The number stands in a7, the arguments in a0, a1 and
 -- a2, and the answer goes to a0; the numbers are those of Linux for RISC-V.
-use Rattle.std.specs.Prelude.{ℕ, ◌==◌, ◌-◌, ◌%◌, ◌^◌, Bool, not, ◌&&◌, ◌||◌, nat_le, if◌then◌else◌, List, [], length, take, drop}
+use Rattle.std.specs.Prelude.{ℕ, ◌==◌, ◌-◌, ◌%◌, ◌^◌, not, ◌&&◌, ◌||◌, nat_le, if◌then◌else◌, List, [], length, take, drop}
 use Rattle.rv64_decode.specs.Area.{Area, readable_of, writable_of}
 use Rattle.rv64_decode.specs.Registers.{register, with_register}
 use Rattle.guest_memory.specs.Spans.{all_permitted, bytes_at, with_bytes_at}

@@ -15,12 +15,19 @@ const PIECE: usize = 512;
 
 // The negated numbers of errors, as words.
 const EBADF: u64 = u64::MAX - 8;
+
 const EFAULT: u64 = u64::MAX - 13;
+
 const ENOSYS: u64 = u64::MAX - 37;
 
 // Moves bytes of the input through `buffer` to the guest's buffer at `addr`: none only at the input's
 // end.
-fn read_some<I: Source>(mem: &mut Memory, addr: u64, buffer: &mut [u8], input: &mut I) -> Result<u64, PortFault>
+fn read_some<I: Source>(
+    mem: &mut Memory,
+    addr: u64,
+    buffer: &mut [u8],
+    input: &mut I,
+) -> Result<u64, PortFault>
     requires room { 0 < length buffer.old }
     requires writable { all_permitted writable_of (length buffer.old) mem.old addr ≡ true }
     ensures count { IfOk result (λ k. k ≤ length buffer.old) }
@@ -106,7 +113,13 @@ fn send<O: Sink>(mem: &Memory, addr: u64, len: u64, out: &mut O) -> Result<(), P
 }
 
 // The answer to a read, which has moved its bytes.
-fn read<I: Source>(fd: u64, addr: u64, len: u64, mem: &mut Memory, input: &mut I) -> Result<u64, PortFault>
+fn read<I: Source>(
+    fd: u64,
+    addr: u64,
+    len: u64,
+    mem: &mut Memory,
+    input: &mut I,
+) -> Result<u64, PortFault>
     ensures answer { IfOk result (λ n. (xs : List ℕ) → I.rest input.old ≡ Some xs → n ≡ read_answer fd addr len mem.old xs) }
     ensures memory { OnOk result ((xs : List ℕ) → I.rest input.old ≡ Some xs → mem.new ≡ with_bytes_at mem.old addr (bytes_read fd addr len mem.old xs)) }
     ensures rest { OnOk result ((xs : List ℕ) → I.rest input.old ≡ Some xs → I.rest input.new ≡ Some (drop (length (bytes_read fd addr len mem.old xs)) xs)) }

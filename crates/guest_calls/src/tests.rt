@@ -11,7 +11,9 @@ use std::test::Fail;
 
 // The negated numbers of errors, as 64-bit words.
 const EBADF: u64 = 0xFFFF_FFFF_FFFF_FFF7;
+
 const EFAULT: u64 = 0xFFFF_FFFF_FFFF_FFF2;
+
 const ENOSYS: u64 = 0xFFFF_FFFF_FFFF_FFDA;
 
 // A heap of 16,777,216 bytes from 0x11000 on.
@@ -124,7 +126,10 @@ fn reads(rt: HostRuntime) -> Result<(), Fail> {
         assert_eq!(rt; told, want, "{words:?}");
         assert_eq!(rt; input.rest().len(), left, "{words:?}");
     }
-    for (addr, want) in [(0x10008, 0x6F6C_6C65_6802_0100), (0x11000, 0x646C_726F_7720)] {
+    for (addr, want) in [
+        (0x10008, 0x6F6C_6C65_6802_0100),
+        (0x11000, 0x646C_726F_7720),
+    ] {
         assert_eq!(rt; memory.load(addr, Width::Eight), Ok(want), "{addr:#x}");
     }
     Ok(())

@@ -1,4 +1,4 @@
-use Rattle.std.proofs.Common.{◌≡◌, ◌++◌, List, ℕ, Some, take, ap, sym, ◌∙◌}
+use Rattle.std.proofs.Common.{◌≡◌, sym, ◌∙◌}
 use Rattle.guest_calls.specs.Calls.{a7}
 use Rattle.guest_calls.proofs.Table.{register_read, written_call}
 use Rattle.guest_calls.proofs.calls.call.Goals as goal

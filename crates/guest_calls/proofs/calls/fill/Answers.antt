@@ -1,7 +1,7 @@
-use Rattle.std.proofs.Common.{◌≡◌, ℕ, ◌+◌, ◌-◌, ◌≤◌, ◌++◌, List, [], length, take, drop, true, Some, ap, sym, ◌∙◌, refl, arith}
+use Rattle.std.proofs.Common.{◌≡◌, ℕ, ◌+◌, ◌-◌, ◌++◌, List, [], take, drop, Some, ap, ◌∙◌, arith}
 use Rattle.std.proofs.lemmas.List.{length-take, length-drop, drop-drop, append-nil}
-use Rattle.rv64_decode.specs.Area.{Area, writable_of}
-use Rattle.guest_memory.specs.Spans.{all_permitted, with_bytes_at}
+use Rattle.rv64_decode.specs.Area.{writable_of}
+use Rattle.guest_memory.specs.Spans.{with_bytes_at}
 use Rattle.guest_calls.proofs.Spans.{permitted_fewer, permitted_rest, short_drop, take_take, taken_all, at_end_rest}
 use Rattle.guest_calls.proofs.calls.fill.Goals as goal
 
@@ -46,18 +46,18 @@ loop-done-preserved g c =
       within = omega arith;
       writable = rw (left, place) (c.in-Ok.ensures.writable (c.args.len - c.loop-done.done - c.in-Ok.count) (c.args.addr + c.loop-done.done + c.in-Ok.count) ∙ permitted);
       had = λ xs h.
-        let m = c.in-Ok.ensures.moved (drop c.loop-done.done xs) (c.loop-done.invariant.rest xs h) in
-        let d = length-drop c.loop-done.done xs in
-        let had = c.loop-done.invariant.had xs h in
-        omega arith;
+          let m = c.in-Ok.ensures.moved (drop c.loop-done.done xs) (c.loop-done.invariant.rest xs h) in
+          let d = length-drop c.loop-done.done xs in
+          let had = c.loop-done.invariant.had xs h in
+          omega arith;
       rest = λ xs h.
-        c.in-Ok.ensures.rest (drop c.loop-done.done xs) (c.loop-done.invariant.rest xs h)
-        ∙ ap (λ (ys : List ℕ). Some ys) (drop-drop c.in-Ok.count c.loop-done.done xs);
+          c.in-Ok.ensures.rest (drop c.loop-done.done xs) (c.loop-done.invariant.rest xs h)
+          ∙ ap (λ (ys : List ℕ). Some ys) (drop-drop c.in-Ok.count c.loop-done.done xs);
       memory = λ xs ys h.
-        let moved = c.in-Ok.ensures.memory (drop c.loop-done.done xs) ys (c.loop-done.invariant.rest xs h) in
-        let before = c.loop-done.invariant.memory xs (take c.in-Ok.count (drop c.loop-done.done xs) ++ ys) h in
-        let all = take_take c.loop-done.done c.in-Ok.count xs ys in
-        rw place (moved ∙ before ∙ ap (λ (bytes : List ℕ). with_bytes_at c.args.mem.now c.args.addr bytes) all);
+          let moved = c.in-Ok.ensures.memory (drop c.loop-done.done xs) ys (c.loop-done.invariant.rest xs h) in
+          let before = c.loop-done.invariant.memory xs (take c.in-Ok.count (drop c.loop-done.done xs) ++ ys) h in
+          let all = take_take c.loop-done.done c.in-Ok.count xs ys in
+          rw place (moved ∙ before ∙ ap (λ (bytes : List ℕ). with_bytes_at c.args.mem.now c.args.addr bytes) all);
       faults = omega (arith, c.in-Ok.ensures.never_falls);
     }
 

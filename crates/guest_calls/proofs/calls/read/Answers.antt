@@ -1,5 +1,4 @@
-use Rattle.std.proofs.Common.{◌≡◌, List, ℕ, Some, ap, sym, ◌∙◌, arith, true}
-use Rattle.std.proofs.lemmas.Bool.Decides.{nat_tests}
+use Rattle.std.proofs.Common.{◌≡◌, List, ℕ, Some, ap, sym, ◌∙◌, true}
 use Rattle.rv64_decode.specs.Area.{writable_of}
 use Rattle.guest_memory.specs.Spans.{all_permitted}
 use Rattle.guest_calls.proofs.Table.{left_by_read}

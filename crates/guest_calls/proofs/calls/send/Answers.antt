@@ -1,4 +1,4 @@
-use Rattle.std.proofs.Common.{◌≡◌, ℕ, ◌+◌, ◌-◌, ◌≤◌, ◌++◌, List, [], length, take, true, Some, ap, sym, ◌∙◌, refl, arith}
+use Rattle.std.proofs.Common.{◌≡◌, ℕ, ◌+◌, ◌-◌, ◌++◌, List, Some, ap, ◌∙◌, arith}
 use Rattle.rv64_decode.specs.Area.{readable_of}
 use Rattle.guest_memory.specs.Spans.{bytes_at}
 use Rattle.guest_calls.proofs.Spans.{permitted_rest, bytes_at_more}
@@ -14,13 +14,15 @@ loop-done-preserved g c =
       within = omega arith;
       readable = rw (left, place) permitted;
       sent = λ ys h.
-        c.in-Ok.ensures.appended (ys ++ bytes_at c.loop-done.done c.args.mem.now c.args.addr) (c.loop-done.invariant.sent ys h)
-        ∙ ap (λ (bytes : List ℕ). Some bytes) (bytes_at_more c.loop-done.done c.in-Ok.count c.args.mem.now c.args.addr ys);
+          c.in-Ok.ensures.appended (ys ++ bytes_at c.loop-done.done c.args.mem.now c.args.addr) (c.loop-done.invariant.sent ys h)
+          ∙ ap (λ (bytes : List ℕ). Some bytes) (bytes_at_more c.loop-done.done c.in-Ok.count c.args.mem.now c.args.addr ys);
       faults = omega (arith, c.in-Ok.ensures.never_falls);
     }
 
 pub returns-in-Err-clause-prefix : goal.returns-in-Err-clause-prefix
 returns-in-Err-clause-prefix g c = λ ys h.
-    let p = c.in-Err.ensures.prefix (ys ++ bytes_at c.loop-done.done c.args.mem.now c.args.addr) (c.loop-done.invariant.sent ys h) in
-    (c.loop-done.done + p.0, omega (arith, p.1),
-     p.2 ∙ ap (λ (bytes : List ℕ). Some bytes) (bytes_at_more c.loop-done.done p.0 c.args.mem.now c.args.addr ys))
+    let p = c.in-Err.ensures.prefix (ys ++ bytes_at c.loop-done.done c.args.mem.now c.args.addr) (c.loop-done.invariant.sent ys h) in (
+      c.loop-done.done + p.0,
+      omega (arith, p.1),
+      p.2 ∙ ap (λ (bytes : List ℕ). Some bytes) (bytes_at_more c.loop-done.done p.0 c.args.mem.now c.args.addr ys),
+    )
