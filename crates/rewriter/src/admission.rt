@@ -44,7 +44,13 @@ fn difference(made: &[u8], given: &[u8]) -> Option<usize>
 }
 
 // Admits the parts of a file, where it is the image of its original part.
-fn admit_parts(alloc: Global, bytes: &[u8], original: Bytes, entries: Entries, code: Code) -> Result<Image, AdmitErr>
+fn admit_parts(
+    alloc: Global,
+    bytes: &[u8],
+    original: Bytes,
+    entries: Entries,
+    code: Code,
+) -> Result<Image, AdmitErr>
     ensures admitted { IfOk result (λ image. parts_by bytes.now original entries code (reading_of original) ≡ Admitted image) }
     ensures loadable { IfOk result (λ image. IsLoadable image.elf) }
     ensures refused { IfErr result (IsRefusal (parts_by bytes.now original entries code (reading_of original))) }
@@ -95,11 +101,13 @@ pub fn admit(alloc: Global, bytes: &[u8]) -> Result<Image, AdmitErr>
     match split_image(alloc, bytes) {
         Ok(Split::Plain) => admit_plain(alloc, bytes),
         Ok(Split::BadMark) => Err(AdmitErr::BadMark),
-        Ok(Split::Parts {
-            original,
-            entries,
-            code,
-        }) => match admit_parts(alloc, bytes, original, entries, code) {
+        Ok(
+            Split::Parts {
+                original,
+                entries,
+                code,
+            },
+        ) => match admit_parts(alloc, bytes, original, entries, code) {
             Ok(image) => Ok(image),
             Err(e) => Err(e),
         },

@@ -43,7 +43,11 @@ pub(crate) fn read(alloc: Global, bytes: &[u8]) -> Result<Elf, RewriteErr>
 }
 
 // The image of an executable that was read from these bytes.
-pub(crate) fn image_from(alloc: Global, original: &[u8], _elf: &Elf) -> Result<Rewritten, RewriteErr>
+pub(crate) fn image_from(
+    alloc: Global,
+    original: &[u8],
+    _elf: &Elf,
+) -> Result<Rewritten, RewriteErr>
     requires { HasHeaders original.now }
     ensures value { IfOk result (λ r. r ≡ rewritten_of original.now _elf.now) }
     ensures refused { IfErr result (λ e. e ≡ RewriteErr.OutOfMemory) }

@@ -59,6 +59,8 @@ fn other_files_are_not_admitted(rt: HostRuntime) -> Result<(), Fail> {
     assert!(rt; whole.len() == 288);
     assert!(rt; admit(alloc, &whole.as_slice()[..287]).err() == Some(AdmitErr::BadMark));
     assert!(rt; rewrite(alloc, whole.as_slice()).err() == Some(RewriteErr::Elf(ElfErr::Unbuilt)));
-    assert!(rt; admit(alloc, b"").err() == Some(AdmitErr::Original(RewriteErr::Elf(ElfErr::NotElf))));
+    assert!(rt;
+        admit(alloc, b"").err() == Some(AdmitErr::Original(RewriteErr::Elf(ElfErr::NotElf)))
+    );
     Ok(())
 }

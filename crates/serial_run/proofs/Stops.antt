@@ -62,8 +62,8 @@ performed_halts s i kind pc addr none e =
     let o = outcome i m.pc m.regs m.memory in
     let left = after m.memory (asks i m.regs) in
     led_halts s (left_with s o.regs left) o.next kind pc addr none
-      (λ k a f. let stays = outcome_fault i m.pc m.regs m.memory k a f in left_same s o.regs left stays.regs_stay stays.memory_stays)
-      e
+    (λ k a f. let stays = outcome_fault i m.pc m.regs m.memory k a f in left_same s o.regs left stays.regs_stay stays.memory_stays)
+    e
 
 executed_halts : (s : State) (word : ℕ) (i : Option Instr) (kind : Fault) (pc addr : ℕ) → IsNone (ended s)
     → ended (executed s word i) ≡ Some (Faulted kind pc addr) → Halts s (executed s word i) kind pc addr

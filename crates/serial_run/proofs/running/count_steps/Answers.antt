@@ -24,7 +24,6 @@ returns-in-Some-clause-output g c = λ s e h f w.
     let stays = serial-ended c.args.fuel s (some_ended s c.args.m.now c.in-Some.end e c.in-Some.is) in
     w ∙ ap (λ (t : State). Some t.output) (sym stays)
 
-
 pub returns-in-Some-step_serial-clause-machine : goal.returns-in-Some-step_serial-clause-machine
 returns-in-Some-step_serial-clause-machine g c = λ s e h f.
     let there = c.in-Some-step_serial.ensures.machine (serial c.loop-k.k s) (c.loop-k.invariant.machine s e h) (c.loop-k.invariant.rest s e h) f in
@@ -66,16 +65,16 @@ loop-k-preserved g c =
     record {
       running = running;
       machine = λ s e h.
-        c.in_default-step_serial.ensures.machine (serial c.loop-k.k s) (c.loop-k.invariant.machine s e h) (c.loop-k.invariant.rest s e h) no_fault
-        ∙ ap (λ (t : State). t.machine) (serial_next c.loop-k.k s);
+          c.in_default-step_serial.ensures.machine (serial c.loop-k.k s) (c.loop-k.invariant.machine s e h) (c.loop-k.invariant.rest s e h) no_fault
+          ∙ ap (λ (t : State). t.machine) (serial_next c.loop-k.k s);
       rest = λ s e h.
-        c.in_default-step_serial.ensures.rest (serial c.loop-k.k s) (c.loop-k.invariant.machine s e h) (c.loop-k.invariant.rest s e h) no_fault
-        ∙ ap (λ (t : State). Some t.rest) (serial_next c.loop-k.k s);
+          c.in_default-step_serial.ensures.rest (serial c.loop-k.k s) (c.loop-k.invariant.machine s e h) (c.loop-k.invariant.rest s e h) no_fault
+          ∙ ap (λ (t : State). Some t.rest) (serial_next c.loop-k.k s);
       output = λ s e h w.
-        c.in_default-step_serial.ensures.output (serial c.loop-k.k s) (c.loop-k.invariant.machine s e h) (c.loop-k.invariant.rest s e h) no_fault (c.loop-k.invariant.output s e h w)
-        ∙ ap (λ (t : State). Some t.output) (serial_next c.loop-k.k s);
+          c.in_default-step_serial.ensures.output (serial c.loop-k.k s) (c.loop-k.invariant.machine s e h) (c.loop-k.invariant.rest s e h) no_fault (c.loop-k.invariant.output s e h w)
+          ∙ ap (λ (t : State). Some t.output) (serial_next c.loop-k.k s);
       first = λ s e h.
-        below_more _ c.loop-k.k (c.loop-k.invariant.first s e h) (none_ended (serial c.loop-k.k s) c.loop-k.m (c.loop-k.invariant.machine s e h) c.loop-k.invariant.running);
+          below_more _ c.loop-k.k (c.loop-k.invariant.first s e h) (none_ended (serial c.loop-k.k s) c.loop-k.m (c.loop-k.invariant.machine s e h) c.loop-k.invariant.running);
       aligned = λ h. c.in_default-step_serial.ensures.aligned (c.loop-k.invariant.aligned h);
       input_faults = omega (arith, c.in_default-step_serial.ensures.input_never_falls);
       output_faults = omega (arith, c.in_default-step_serial.ensures.output_never_falls);
