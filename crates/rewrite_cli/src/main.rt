@@ -5,17 +5,17 @@ mod command;
 mod report;
 mod run;
 mod status;
+#[cfg(test)]
+mod tests;
 mod words;
 
 pub use command::command;
-pub use status::{Reason, Status};
-
 use outside_ports::{ErrSink, FileStore, NoGate, StdSink, StdSource};
+pub use status::{Reason, Status};
 use std::alloc::Global;
-use std::env;
-use std::io;
 use std::process::ExitCode;
 use std::rt::Env;
+use std::{env, io};
 
 /// The exit status where the runtime does not hand over the words.
 const NO_WORDS: u8 = 129;

@@ -7,7 +7,8 @@ use outside_ports::{Failed, Sink};
 use rv64_decode::{Fault, MemFault};
 use std::alloc::{AllocError, Global};
 
-const USAGE: &str = "usage: list FILE | rewrite FILE NEW | run FILE HARTS [FUEL [DUMP]] | replay FILE HARTS ORDER | make KIND N NEW\n";
+const USAGE: &str =
+    "usage: list FILE | rewrite FILE NEW | run FILE HARTS [FUEL [DUMP]] | replay FILE HARTS ORDER | make KIND N NEW\n";
 
 fn why_name(why: MemFault) -> &'static str
     ensures { result.now ≡ why_text why }
@@ -69,7 +70,13 @@ fn exit_text(alloc: Global, steps: u64, code: u8) -> Result<String, AllocError>
     Ok(text)
 }
 
-fn fault_report(alloc: Global, steps: u64, kind: Fault, pc: u64, addr: u64) -> Result<String, AllocError>
+fn fault_report(
+    alloc: Global,
+    steps: u64,
+    kind: Fault,
+    pc: u64,
+    addr: u64,
+) -> Result<String, AllocError>
     ensures { IfOk result (λ s. string_bytes s ≡ report_of steps (Status.Faulted kind pc addr)) }
 {
     let mut text = count_text(alloc, steps)?;

@@ -68,7 +68,13 @@ fn status_from(end: End) -> Status
 }
 
 // Runs an executable from its start.
-fn run_elf<I: Source, O: Sink>(alloc: Global, elf: &Elf, fuel: u64, input: &mut I, out: &mut O) -> RunEnd
+fn run_elf<I: Source, O: Sink>(
+    alloc: Global,
+    elf: &Elf,
+    fuel: u64,
+    input: &mut I,
+    out: &mut O,
+) -> RunEnd
     requires { IsLoadable elf.now }
     ensures status { (xs : List ℕ) → I.rest input.old ≡ Some xs → is_from_outside result.status ≡ false → result.status ≡ (ran fuel (start_of elf.now xs)).status }
     ensures steps { (xs : List ℕ) → I.rest input.old ≡ Some xs → is_from_outside result.status ≡ false → result.steps ≡ (ran fuel (start_of elf.now xs)).steps }

@@ -10,8 +10,8 @@ loop-done-preserved g c =
     record {
       within = omega (arith, c.in-Ok.ensures.count);
       written = λ zs h.
-        c.in-Ok.ensures.appended (zs ++ take c.loop-done.done c.args.bytes.now) (c.loop-done.invariant.written zs h)
-        ∙ ap (λ (ys : List ℕ). Some ys) (written_more c.loop-done.done c.in-Ok.count zs c.args.bytes.now);
+          c.in-Ok.ensures.appended (zs ++ take c.loop-done.done c.args.bytes.now) (c.loop-done.invariant.written zs h)
+          ∙ ap (λ (ys : List ℕ). Some ys) (written_more c.loop-done.done c.in-Ok.count zs c.args.bytes.now);
       faults = omega (arith, c.in-Ok.ensures.never_falls);
     }
 
