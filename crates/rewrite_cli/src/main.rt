@@ -5,6 +5,8 @@ mod command;
 mod report;
 mod run;
 mod status;
+#[cfg(test)]
+mod tests;
 mod words;
 
 pub use command::command;
