@@ -172,7 +172,7 @@ prefix_of_all k fuel s written l p =
     let e : suc k + (fuel - suc k) ≡ fuel = omega arith in
     let next = serial-suc k s in
     let all : serial fuel s ≡ serial (fuel - suc k) (step (serial k s)) =
-        ap (λ (n : ℕ). serial n s) (sym e) ∙ serial-add (suc k) (fuel - suc k) s ∙ ap (λ (t : State). serial (fuel - suc k) t) next in
+    ap (λ (n : ℕ). serial n s) (sym e) ∙ serial-add (suc k) (fuel - suc k) s ∙ ap (λ (t : State). serial (fuel - suc k) t) next in
     let grown = serial_output (fuel - suc k) (step (serial k s)) in
     let same : (serial fuel s).output ≡ (step (serial k s)).output ++ grown.more = ap (λ (t : State). t.output) all ∙ grown.are in
     record {

@@ -9,19 +9,16 @@ use crate::machine::End;
 pub fn first_ending()
     ensures found { (fuel : ℕ) (s : State) → IsSome (ended (serial fuel s)) → IsEnding s (executed_of fuel s) (serial fuel s) }
     ensures only { (fuel n : ℕ) (s t : State) → IsEnding s n t → n ≤ fuel → (serial fuel s ≡ t) × (executed_of fuel s ≡ n) }
-{
-}
+{}
 
 /// An instruction that faults changes nothing but the ending, which tells the address that the
 /// instruction stands at.
 pub fn faults_change_nothing()
     ensures stays { (s : State) (kind : Fault) (pc addr : ℕ) → IsNone (ended s) → ended (step s) ≡ Some (End.Faulted kind pc addr) → step s ≡ ended_by s (End.Faulted kind pc addr) }
     ensures place { (s : State) (kind : Fault) (pc addr : ℕ) → IsNone (ended s) → ended (step s) ≡ Some (End.Faulted kind pc addr) → pc ≡ s.machine.pc }
-{
-}
+{}
 
 /// The output after some instructions is a first part of the output after more of them.
 pub fn output_only_grows()
     ensures { (n m : ℕ) (s : State) → n ≤ m → (more : List ℕ) × ((serial m s).output ≡ (serial n s).output ++ more) }
-{
-}
+{}

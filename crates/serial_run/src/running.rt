@@ -100,9 +100,17 @@ fn advance<I: Source, O: Sink>(m: &mut Machine, input: &mut I, out: &mut O)
 {
     let pc = m.pc;
     match m.memory.fetch(pc) {
-        Err(_) => m.ended = Some(End::Faulted { kind: Fault::Fetch, pc, addr: pc }),
+        Err(_) => m.ended = Some(End::Faulted {
+            kind: Fault::Fetch,
+            pc,
+            addr: pc,
+        }),
         Ok(word) => match decode(word) {
-            None => m.ended = Some(End::Faulted { kind: Fault::Illegal, pc, addr: word as u64 }),
+            None => m.ended = Some(End::Faulted {
+                kind: Fault::Illegal,
+                pc,
+                addr: word as u64,
+            }),
             Some(i) => perform(m, i, input, out),
         },
     }
@@ -178,7 +186,12 @@ fn count_steps<I: Source, O: Sink>(m: &mut Machine, fuel: u64, input: &mut I, ou
 /// is `Spent` exactly where these have given none; the machine then has no ending. After a fault of
 /// the source or the sink nothing more is known of the machine, and a first part of the output has
 /// gone out.
-pub fn run_counted<I: Source, O: Sink>(m: &mut Machine, fuel: u64, input: &mut I, out: &mut O) -> Ran
+pub fn run_counted<I: Source, O: Sink>(
+    m: &mut Machine,
+    fuel: u64,
+    input: &mut I,
+    out: &mut O,
+) -> Ran
     ensures end { result.end ≡ unwrap_or m.new.ended End.Spent }
     ensures steps { (s : State) → m.old ≡ s.machine → I.rest input.old ≡ Some s.rest → is_port_fault m.new.ended ≡ false → result.steps ≡ executed_of fuel s }
     ensures machine { (s : State) → m.old ≡ s.machine → I.rest input.old ≡ Some s.rest → is_port_fault m.new.ended ≡ false → m.new ≡ (serial fuel s).machine }

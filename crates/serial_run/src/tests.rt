@@ -58,10 +58,42 @@ fn run(alloc: Global, code: &[u8], fuel: u64) -> Result<(Ran, u64, Vec<u8>), All
 #[test]
 fn hello_needs_nine_instructions(rt: HostRuntime) -> Result<(), Fail> {
     for (fuel, want, at, text) in [
-        (9, Ran { end: End::Exited(0), steps: 9 }, 0x10098, "hello\n"),
-        (1000, Ran { end: End::Exited(0), steps: 9 }, 0x10098, "hello\n"),
-        (8, Ran { end: End::Spent, steps: 8 }, 0x10098, "hello\n"),
-        (5, Ran { end: End::Spent, steps: 5 }, 0x1008C, ""),
+        (
+            9,
+            Ran {
+                end: End::Exited(0),
+                steps: 9,
+            },
+            0x10098,
+            "hello\n",
+        ),
+        (
+            1000,
+            Ran {
+                end: End::Exited(0),
+                steps: 9,
+            },
+            0x10098,
+            "hello\n",
+        ),
+        (
+            8,
+            Ran {
+                end: End::Spent,
+                steps: 8,
+            },
+            0x10098,
+            "hello\n",
+        ),
+        (
+            5,
+            Ran {
+                end: End::Spent,
+                steps: 5,
+            },
+            0x1008C,
+            "",
+        ),
     ] {
         let (ran, pc, written) = run(rt.alloc(), &HELLO, fuel)?;
         assert_eq!(rt; ran, want, "{fuel}");
@@ -136,7 +168,13 @@ fn ends_outside_code_and_by_the_sink(rt: HostRuntime) -> Result<(), Fail> {
     let mut input = MemSource::new(Vec::new(rt.alloc()), 1, Vec::new(rt.alloc()));
     let mut out = MemSink::new(rt.alloc(), 3, Vec::new(rt.alloc()))?;
     let ran = run_counted(&mut m, 9, &mut input, &mut out);
-    assert_eq!(rt; ran, Ran { end: End::WriteFault, steps: 6 });
+    assert_eq!(rt;
+        ran,
+        Ran {
+            end: End::WriteFault,
+            steps: 6
+        }
+    );
     assert!(rt; out.bytes() == b"hel".as_slice());
     Ok(())
 }

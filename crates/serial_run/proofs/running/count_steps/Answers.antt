@@ -1,7 +1,6 @@
-use Rattle.std.proofs.Common.{◌≡◌, ℕ, ◌+◌, ◌<◌, ◌≤◌, Bool, true, Option, Some, ap, sym, ◌∙◌, arith, below_more}
+use Rattle.std.proofs.Common.{◌≡◌, ◌+◌, true, Option, Some, ap, sym, ◌∙◌, arith, below_more}
 use Rattle.std.specs.Prelude.{IsNone, is_some}
-use Rattle.serial_run.specs.Serial.{State, ended, step, serial, executed_of}
-use Rattle.serial_run.specs.Ports.{IsPrefixOf}
+use Rattle.serial_run.specs.Serial.{State, ended, step, serial}
 use Rattle.serial_run.specs.declared.machine.End.{End}
 use Rattle.serial_run.proofs.Steps.{serial-ended, serial_next, serial_last, some_ended, none_ended, none_fault, executed_first, executed_none, executed_ended, prefix_of_all}
 use Rattle.serial_run.proofs.running.count_steps.Goals as goal
@@ -23,7 +22,6 @@ pub returns-in-Some-clause-output : goal.returns-in-Some-clause-output
 returns-in-Some-clause-output g c = λ s e h f w.
     let stays = serial-ended c.args.fuel s (some_ended s c.args.m.now c.in-Some.end e c.in-Some.is) in
     w ∙ ap (λ (t : State). Some t.output) (sym stays)
-
 
 pub returns-in-Some-step_serial-clause-machine : goal.returns-in-Some-step_serial-clause-machine
 returns-in-Some-step_serial-clause-machine g c = λ s e h f.
@@ -66,16 +64,16 @@ loop-k-preserved g c =
     record {
       running = running;
       machine = λ s e h.
-        c.in_default-step_serial.ensures.machine (serial c.loop-k.k s) (c.loop-k.invariant.machine s e h) (c.loop-k.invariant.rest s e h) no_fault
-        ∙ ap (λ (t : State). t.machine) (serial_next c.loop-k.k s);
+          c.in_default-step_serial.ensures.machine (serial c.loop-k.k s) (c.loop-k.invariant.machine s e h) (c.loop-k.invariant.rest s e h) no_fault
+          ∙ ap (λ (t : State). t.machine) (serial_next c.loop-k.k s);
       rest = λ s e h.
-        c.in_default-step_serial.ensures.rest (serial c.loop-k.k s) (c.loop-k.invariant.machine s e h) (c.loop-k.invariant.rest s e h) no_fault
-        ∙ ap (λ (t : State). Some t.rest) (serial_next c.loop-k.k s);
+          c.in_default-step_serial.ensures.rest (serial c.loop-k.k s) (c.loop-k.invariant.machine s e h) (c.loop-k.invariant.rest s e h) no_fault
+          ∙ ap (λ (t : State). Some t.rest) (serial_next c.loop-k.k s);
       output = λ s e h w.
-        c.in_default-step_serial.ensures.output (serial c.loop-k.k s) (c.loop-k.invariant.machine s e h) (c.loop-k.invariant.rest s e h) no_fault (c.loop-k.invariant.output s e h w)
-        ∙ ap (λ (t : State). Some t.output) (serial_next c.loop-k.k s);
+          c.in_default-step_serial.ensures.output (serial c.loop-k.k s) (c.loop-k.invariant.machine s e h) (c.loop-k.invariant.rest s e h) no_fault (c.loop-k.invariant.output s e h w)
+          ∙ ap (λ (t : State). Some t.output) (serial_next c.loop-k.k s);
       first = λ s e h.
-        below_more _ c.loop-k.k (c.loop-k.invariant.first s e h) (none_ended (serial c.loop-k.k s) c.loop-k.m (c.loop-k.invariant.machine s e h) c.loop-k.invariant.running);
+          below_more _ c.loop-k.k (c.loop-k.invariant.first s e h) (none_ended (serial c.loop-k.k s) c.loop-k.m (c.loop-k.invariant.machine s e h) c.loop-k.invariant.running);
       aligned = λ h. c.in_default-step_serial.ensures.aligned (c.loop-k.invariant.aligned h);
       input_faults = omega (arith, c.in_default-step_serial.ensures.input_never_falls);
       output_faults = omega (arith, c.in_default-step_serial.ensures.output_never_falls);
