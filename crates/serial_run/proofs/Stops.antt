@@ -1,25 +1,22 @@
 -- An instruction that faults leaves the state as it was.
-use Rattle.std.proofs.Common.{◌≡◌, ◌==◌, ℕ, ◌%◌, ◌-◌, if◌then◌else◌, Bool, true, false, List, Option, Some, None, Result, Ok, Err, ap, ◌∙◌, refl, arith}
+use Rattle.std.proofs.Common.{◌≡◌, ℕ, true, false, List, Option, Some, None, Result, Ok, Err, ap, ◌∙◌, refl}
 use Rattle.std.specs.Prelude.{IsNone, is_some}
-use Rattle.rv64_decode.specs.Area.{Area, fetch_of, load_of, store_of}
-use Rattle.rv64_decode.specs.Ask.{after, without_number}
-use Rattle.rv64_decode.specs.Registers.{register, with_register}
+use Rattle.rv64_decode.specs.Area.{Area, fetch_of}
+use Rattle.rv64_decode.specs.Ask.{after}
 use Rattle.rv64_decode.specs.Table.{decoded}
-use Rattle.rv64_decode.specs.Row.{asks, outcome, onward, jump, loaded, stored, shifted, taken, store_width, load_width, next_pc}
+use Rattle.rv64_decode.specs.Row.{asks, outcome}
 use Rattle.rv64_decode.specs.declared.memory.MemFault.{MemFault}
-use Rattle.rv64_decode.specs.declared.instr.LoadOp.{LoadOp}
 use Rattle.rv64_decode.specs.declared.instr.Instr.{Instr}
-use Rattle.rv64_decode.specs.declared.instr.Instr.TheVariants.{Alu, AluImm, Upper, Load, Store, Branch, Jal, Jalr, Fence, Ecall, Ebreak}
 use Rattle.rv64_decode.specs.declared.outcome.Fault.{Fault}
 use Rattle.rv64_decode.specs.declared.outcome.Next.{Next}
 use Rattle.rv64_decode.specs.declared.outcome.Next.TheVariants.{At, Call, Fault as Faulting}
-use Rattle.rv64_decode.proofs.Faults.{Stays, outcome_fault}
+use Rattle.rv64_decode.proofs.Faults.{outcome_fault}
 use Rattle.guest_calls.specs.Calls.{called}
 use Rattle.guest_calls.specs.declared.Going.{Going}
 use Rattle.guest_calls.specs.declared.Going.TheVariants.{On, Exit}
 use Rattle.serial_run.specs.Serial.{State, ended, ended_by, end_after, left_with, led, performed, executed, fetched, step, unless_ended}
 use Rattle.serial_run.specs.declared.machine.End.{End}
-use Rattle.serial_run.specs.declared.machine.End.TheVariants.{Exited, Faulted}
+use Rattle.serial_run.specs.declared.machine.End.TheVariants.{Faulted}
 
 -- the ending alone is new, and it tells the instruction's place
 pub record Halts (s t : State) (kind : Fault) (pc addr : ℕ) : Type 0 where

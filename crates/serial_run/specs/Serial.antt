@@ -1,6 +1,6 @@
 -- The run of an executable by one hart: where it starts, what one instruction does, the state after
 -- any number of them, and where it ends.
-use Rattle.std.specs.Prelude.{ℕ, zero, suc, ◌≡◌, ◌+◌, ◌<◌, ◌≤◌, ◌++◌, List, [], Option, Some, None, IsSome, IsNone, is_some, if◌then◌else◌, Result, Ok, Err, replicate}
+use Rattle.std.specs.Prelude.{ℕ, zero, suc, ◌≡◌, ◌+◌, ◌<◌, ◌++◌, List, [], Option, Some, None, IsSome, IsNone, is_some, if◌then◌else◌, Result, Ok, Err, replicate}
 use Rattle.rv64_decode.specs.Area.{Area, fetch_of}
 use Rattle.rv64_decode.specs.Ask.{after}
 use Rattle.rv64_decode.specs.Registers.{with_register}

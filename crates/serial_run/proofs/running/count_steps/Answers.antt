@@ -1,7 +1,6 @@
-use Rattle.std.proofs.Common.{◌≡◌, ℕ, ◌+◌, ◌<◌, ◌≤◌, Bool, true, Option, Some, ap, sym, ◌∙◌, arith, below_more}
+use Rattle.std.proofs.Common.{◌≡◌, ◌+◌, true, Option, Some, ap, sym, ◌∙◌, arith, below_more}
 use Rattle.std.specs.Prelude.{IsNone, is_some}
-use Rattle.serial_run.specs.Serial.{State, ended, step, serial, executed_of}
-use Rattle.serial_run.specs.Ports.{IsPrefixOf}
+use Rattle.serial_run.specs.Serial.{State, ended, step, serial}
 use Rattle.serial_run.specs.declared.machine.End.{End}
 use Rattle.serial_run.proofs.Steps.{serial-ended, serial_next, serial_last, some_ended, none_ended, none_fault, executed_first, executed_none, executed_ended, prefix_of_all}
 use Rattle.serial_run.proofs.running.count_steps.Goals as goal

@@ -1,4 +1,4 @@
-use Rattle.std.proofs.Common.{◌≡◌, ℕ, ◌<◌, ◌≤◌, ◌%◌, List, Some, None}
+use Rattle.std.proofs.Common.{◌≡◌, ℕ, ◌<◌, ◌≤◌, ◌%◌, Some, None}
 use Rattle.std.specs.Prelude.{IsNone}
 use Rattle.serial_run.specs.Serial.{State, ended, serial}
 use Rattle.serial_run.proofs.running.count_steps.Given as goal

@@ -1,6 +1,5 @@
-use Rattle.std.proofs.Common.{◌≡◌, ◌++◌, ℕ, List, Some, ap, ◌∙◌}
+use Rattle.std.proofs.Common.{Some, ap, ◌∙◌}
 use Rattle.serial_run.specs.Serial.{State}
-use Rattle.serial_run.specs.Ports.{IsPrefixOf}
 use Rattle.serial_run.proofs.Steps.{with_before, serial_before}
 use Rattle.serial_run.proofs.running.run_counted.Goals as goal
 
