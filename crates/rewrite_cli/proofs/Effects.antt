@@ -1,22 +1,24 @@
--- What a command does, from its steps.
+-- What a command does, from its counts.
 use Rattle.std.proofs.Common.{◌≡◌, ◌≢◌, ℕ, ◌<◌, List, [], length, Option, Some, None, Bool, true, false, refl, arith, ap, sym, ◌∙◌, ◌++◌, ◌⊎◌, inl, inr}
 use Rattle.std.proofs.Math.Seq.{take-length, take-append_seam}
 use Rattle.std.proofs.lemmas.List.{append-nil}
 use Rattle.std.proofs.lemmas.Bool.Decides.{nat_tests}
-use Rattle.std.specs.Prelude.{nat_lt}
-use Rattle.outside_ports.specs.Ports.{Files, PassesLimit}
+use Rattle.std.specs.Prelude.{nat_lt, take}
+use Rattle.outside_ports.specs.Ports.{Files, PassesLimit, SavedIn, SameButIn}
 use Rattle.serial_run.specs.Ports.{IsPrefixOf}
-use Rattle.rewrite_cli.specs.Effect.{Effect, effect_of, of_command, of_content, only, load_limit, IsPartOfReport}
+use Rattle.rewrite_cli.specs.Effect.{Effect, effect_of, of_command, of_content, run_of, rewrite_of, only, load_limit, IsPartOfReport}
 use Rattle.rewrite_cli.specs.Status.{is_from_outside}
-use Rattle.rewrite_cli.specs.Texts.{IsReportPart}
+use Rattle.rewrite_cli.specs.Counts.{no_counts}
+use Rattle.rewrite_cli.specs.Texts.{report_of, IsReportPart}
+use Rattle.rewrite_cli.specs.declared.counts.Counts.{Counts}
 use Rattle.rewrite_cli.specs.declared.status.Reason.TheVariants.{LoadTooLong}
 use Rattle.rewrite_cli.specs.declared.status.Status.{Status}
 use Rattle.rewrite_cli.specs.declared.status.Status.TheVariants.{Refused, Usage, OutOfMemory, WriteFault}
-use Rattle.rewrite_cli.specs.Words.{Command, Run, command_of}
+use Rattle.rewrite_cli.specs.Words.{Command, Run, Rewrite, command_of}
 
-pub content_too_long : (content : Option (List ℕ)) (fuel : ℕ) (input : List ℕ) → PassesLimit content load_limit → of_content fuel input content ≡ only (Refused (LoadTooLong load_limit)) input
-content_too_long None fuel input h = absurd h
-content_too_long (Some bytes) fuel input h =
+pub content_too_long : (content : Option (List ℕ)) (act : List ℕ → Effect) (input : List ℕ) → PassesLimit content load_limit → of_content act input content ≡ only (Refused (LoadTooLong load_limit)) input
+content_too_long None act input h = absurd h
+content_too_long (Some bytes) act input h =
     let long : nat_lt load_limit (length bytes) ≡ true = grind (arith, nat_tests) in rw long refl
 
 -- nothing has gone out of what a command writes
@@ -45,31 +47,46 @@ kept_answer answer status (inr (inr e)) f = let g = rw e at f in cc
 pub no_write_fault : (answer : Status) → is_from_outside answer ≡ false → answer ≢ WriteFault
 no_write_fault answer f e = let g = rw e at f in cc
 
-by_test : (b : Bool) (status : Status) (steps : ℕ) (e : Effect) → is_from_outside status ≡ b → (is_from_outside status ≡ false → (status ≡ e.status) × (steps ≡ e.steps))
-    → (is_from_outside status ≡ true) ⊎ ((status ≡ e.status) × (steps ≡ e.steps))
-by_test true status steps e t h = inl t
-by_test false status steps e t h = inr (h t)
+by_test : (b : Bool) (status : Status) (counts : Counts) (e : Effect) → is_from_outside status ≡ b → (is_from_outside status ≡ false → (status ≡ e.status) × (counts ≡ e.counts))
+    → (is_from_outside status ≡ true) ⊎ ((status ≡ e.status) × (counts ≡ e.counts))
+by_test true status counts e t h = inl t
+by_test false status counts e t h = inr (h t)
 
-replaced_by : (replaced status : Status) (steps : ℕ) (e : Effect) → (replaced ≡ status) ⊎ (replaced ≡ OutOfMemory) → (is_from_outside status ≡ false → (status ≡ e.status) × (steps ≡ e.steps))
-    → (is_from_outside replaced ≡ true) ⊎ ((replaced ≡ e.status) × (steps ≡ e.steps))
-replaced_by replaced status steps e (inl same) h = rw same (by_test (is_from_outside status) status steps e refl h)
-replaced_by replaced status steps e (inr none) h = inl (rw none refl)
+replaced_by : (replaced status : Status) (counts : Counts) (e : Effect) → (replaced ≡ status) ⊎ (replaced ≡ OutOfMemory) → (is_from_outside status ≡ false → (status ≡ e.status) × (counts ≡ e.counts))
+    → (is_from_outside replaced ≡ true) ⊎ ((replaced ≡ e.status) × (counts ≡ e.counts))
+replaced_by replaced status counts e (inl same) h = rw same (by_test (is_from_outside status) status counts e refl h)
+replaced_by replaced status counts e (inr none) h = inl (rw none refl)
 
 -- a first part of the report of an answer
-pub report_part : (before : List ℕ) (steps : ℕ) (status : Status) (e : Effect) (written : Option (List ℕ)) → IsReportPart before steps status written
-    → (is_from_outside status ≡ false → (status ≡ e.status) × (steps ≡ e.steps)) → IsPartOfReport before e written
-report_part before steps status e written p h =
-    record { replaced = p.replaced; steps = steps; is = replaced_by p.replaced status steps e p.is h; count = p.count; are = p.are }
+pub report_part : (before : List ℕ) (counts : Counts) (status : Status) (e : Effect) (written : Option (List ℕ)) → IsReportPart before counts status written
+    → (is_from_outside status ≡ false → (status ≡ e.status) × (counts ≡ e.counts)) → IsPartOfReport before e written
+report_part before counts status e written p h =
+    record { replaced = p.replaced; counts = counts; is = replaced_by p.replaced status counts e p.is h; count = p.count; are = p.are }
+
+-- the same, from the bytes of that report
+pub part_of_text : (before : List ℕ) (counts : Counts) (status : Status) (e : Effect) (text : List ℕ) (written : Option (List ℕ)) → text ≡ report_of counts status
+    → (is_from_outside status ≡ true) ⊎ ((status ≡ e.status) × (counts ≡ e.counts)) → (k : ℕ) × (written ≡ Some (before ++ take k text)) → IsPartOfReport before e written
+part_of_text before counts status e text written t is p =
+    record { replaced = status; counts = counts; is = is; count = p.0; are = p.1 ∙ ap (λ (v : List ℕ). Some (before ++ take p.0 v)) t }
 
 -- nothing of it
 pub nothing_reported : (before : List ℕ) (e : Effect) (written : Option (List ℕ)) → written ≡ Some before → IsPartOfReport before e written
 nothing_reported before e written h =
-    record { replaced = WriteFault; steps = 0; is = inl refl; count = 0; are = h ∙ ap (λ (v : List ℕ). Some v) (sym (append-nil before)) }
+    record { replaced = WriteFault; counts = no_counts; is = inl refl; count = 0; are = h ∙ ap (λ (v : List ℕ). Some v) (sym (append-nil before)) }
+
+-- ---- files
+
+pub others_of_saved : (m : Files) (files : Option Files) (name bytes : List ℕ) → SavedIn m files name bytes → SameButIn m files name
+others_of_saved m None name bytes h = absurd h
+others_of_saved m (Some n) name bytes h = h.1
 
 -- ---- commands
 
-pub effect_run : (words : List (List ℕ)) (m : Files) (xs : List ℕ) (file : List ℕ) (fuel : ℕ) → command_of words ≡ Some (Run file fuel) → effect_of words m xs ≡ of_content fuel xs (m file)
+pub effect_run : (words : List (List ℕ)) (m : Files) (xs : List ℕ) (file : List ℕ) (fuel : ℕ) → command_of words ≡ Some (Run file fuel) → effect_of words m xs ≡ of_content (run_of fuel xs) xs (m file)
 effect_run words m xs file fuel e = ap (λ (command : Option Command). of_command m xs command) e
+
+pub effect_rewrite : (words : List (List ℕ)) (m : Files) (xs : List ℕ) (file new : List ℕ) → command_of words ≡ Some (Rewrite file new) → effect_of words m xs ≡ of_content (rewrite_of new xs) xs (m file)
+effect_rewrite words m xs file new e = ap (λ (command : Option Command). of_command m xs command) e
 
 pub effect_none : (words : List (List ℕ)) (m : Files) (xs : List ℕ) → command_of words ≡ None → effect_of words m xs ≡ only Usage xs
 effect_none words m xs e = ap (λ (command : Option Command). of_command m xs command) e

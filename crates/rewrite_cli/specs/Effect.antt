@@ -1,20 +1,25 @@
 -- What a command does where the outside does not fail and memory is found.
 use Rattle.std.specs.Prelude.{ℕ, ◌≡◌, ◌⊎◌, ◌++◌, take, Bool, true, false, nat_lt, if◌then◌else◌, List, [], Option, Some, None, Result, Ok, Err, length}
-use Rattle.outside_ports.specs.Ports.{Files, Lacks}
-use Rattle.elf_image.specs.declared.image.Elf.{Elf}
+use Rattle.outside_ports.specs.Ports.{Files, Lacks, SameButIn, SavedIn}
+use Rattle.outside_ports.specs.Fakes.{File}
 use Rattle.elf_image.specs.declared.reading.ElfErr.{ElfErr}
 use Rattle.elf_image.specs.declared.reading.ElfErr.TheVariants.{NotElf as NotAnElf, Unbuilt as NotBuilt, OutOfMemory as NoMemory}
-use Rattle.elf_image.specs.Reading.{reading_of}
 use Rattle.serial_run.specs.Serial.{State, start_of, ended, serial, executed_of}
 use Rattle.serial_run.specs.declared.machine.End.{End}
 use Rattle.serial_run.specs.declared.machine.End.TheVariants.{Exited as DidExit, Faulted as DidFault, Spent as DidSpend, ReadFault as SourceFault, WriteFault as SinkFault}
-use Rattle.rewrite_cli.specs.Words.{Command, Run, command_of}
+use Rattle.rewriter.specs.declared.rewriting.Rewritten.{Rewritten}
+use Rattle.rewriter.specs.declared.rewriting.RewriteErr.{RewriteErr}
+use Rattle.rewriter.specs.declared.rewriting.RewriteErr.TheVariants.{Elf as NotRead, OutOfMemory as NoRoom}
+use Rattle.rewriter.specs.Rewriting.{rewriting_of}
+use Rattle.rewriter.specs.Admission.{Admission, Admitted, Bad, Refused as IsRefused, Differs, admission_of}
+use Rattle.rewrite_cli.specs.Words.{Command, Run, Rewrite, command_of}
 use Rattle.rewrite_cli.specs.Status.{is_from_outside}
+use Rattle.rewrite_cli.specs.Counts.{of_steps, no_counts}
 use Rattle.rewrite_cli.specs.Texts.{report_of}
-use Rattle.rewrite_cli.specs.declared.status.Reason.{Reason}
-use Rattle.rewrite_cli.specs.declared.status.Reason.TheVariants.{LoadTooLong, NotElf, Unbuilt}
+use Rattle.rewrite_cli.specs.declared.counts.Counts.{Counts}
+use Rattle.rewrite_cli.specs.declared.status.Reason.TheVariants.{LoadTooLong, NotElf, Unbuilt, BadMark, Altered}
 use Rattle.rewrite_cli.specs.declared.status.Status.{Status}
-use Rattle.rewrite_cli.specs.declared.status.Status.TheVariants.{Exited, Faulted, Spent, Usage, Refused, StoreFault, ReadFault, WriteFault, OutOfMemory}
+use Rattle.rewrite_cli.specs.declared.status.Status.TheVariants.{Done, Exited, Faulted, Spent, Usage, Refused, StoreFault, ReadFault, WriteFault, OutOfMemory}
 
 pub record Effect : Type 0 where
   pub status : Status
@@ -22,8 +27,10 @@ pub record Effect : Type 0 where
   pub output : List ℕ
   -- the bytes of the input that it leaves
   pub rest : List ℕ
-  -- the instructions that it executes
-  pub steps : ℕ
+  -- what its report counts
+  pub counts : Counts
+  -- the file that it saves
+  pub saved : Option File
 
 -- the longest file that is loaded
 abbrev pub load_limit : ℕ
@@ -31,7 +38,24 @@ load_limit = 84934656
 
 -- the answer, and nothing else is done
 abbrev pub only : Status → List ℕ → Effect
-only status input = record { status = status; output = []; rest = input; steps = 0 }
+only status input = record { status = status; output = []; rest = input; counts = no_counts; saved = None }
+
+abbrev pub reason_of : ElfErr → Status
+reason_of NotAnElf = Refused NotElf
+reason_of NotBuilt = Refused Unbuilt
+reason_of NoMemory = OutOfMemory
+
+-- the answer to an executable that is not rewritten
+abbrev pub status_of_refusal : RewriteErr → Status
+status_of_refusal (NotRead e) = reason_of e
+status_of_refusal NoRoom = OutOfMemory
+
+-- what a command does with a file, if it is there and not too long
+abbrev pub of_content : (List ℕ → Effect) → List ℕ → Option (List ℕ) → Effect
+of_content act input None = only StoreFault input
+of_content act input (Some bytes) = if nat_lt load_limit (length bytes) then only (Refused (LoadTooLong load_limit)) input else act bytes
+
+-- ---- a run
 
 -- the answer to the ending of a run
 abbrev pub status_of_end : End → Status
@@ -49,36 +73,48 @@ status_of (Some end) = status_of_end end
 abbrev pub ran : ℕ → State → Effect
 ran fuel s =
     let t = serial fuel s in
-    record { status = status_of (ended t); output = t.output; rest = t.rest; steps = executed_of fuel s }
+    record { status = status_of (ended t); output = t.output; rest = t.rest; counts = of_steps (executed_of fuel s); saved = None }
 
-abbrev pub reason_of : ElfErr → Status
-reason_of NotAnElf = Refused NotElf
-reason_of NotBuilt = Refused Unbuilt
-reason_of NoMemory = OutOfMemory
-
-abbrev pub of_reading : ℕ → List ℕ → Result Elf ElfErr → Effect
-of_reading fuel input (Ok elf) = ran fuel (start_of elf input)
-of_reading fuel input (Err e) = only (reason_of e) input
+abbrev pub of_admission : ℕ → List ℕ → Admission → Effect
+of_admission fuel input (Admitted image) = ran fuel (start_of image.elf input)
+of_admission fuel input Bad = only (Refused BadMark) input
+of_admission fuel input (IsRefused why) = only (reason_of why) input
+of_admission fuel input (Differs offset) = only (Refused (Altered offset)) input
 
 -- a run of the file with these bytes
-abbrev pub of_bytes : ℕ → List ℕ → List ℕ → Effect
-of_bytes fuel input bytes =
-    if nat_lt load_limit (length bytes) then only (Refused (LoadTooLong load_limit)) input else of_reading fuel input (reading_of bytes)
+abbrev pub run_of : ℕ → List ℕ → List ℕ → Effect
+run_of fuel input bytes = of_admission fuel input (admission_of bytes)
 
-abbrev pub of_content : ℕ → List ℕ → Option (List ℕ) → Effect
-of_content fuel input None = only StoreFault input
-of_content fuel input (Some bytes) = of_bytes fuel input bytes
+-- ---- rewriting
+
+abbrev pub counts_of : Rewritten → Counts
+counts_of made = record { steps = 0; entries = made.entries; words = made.words }
+
+abbrev pub of_rewriting : List ℕ → List ℕ → Result Rewritten ElfErr → Effect
+of_rewriting new input (Ok made) =
+    record { status = Done; output = []; rest = input; counts = counts_of made; saved = Some (new, made.bytes) }
+of_rewriting new input (Err e) = only (reason_of e) input
+
+-- the image of the file with these bytes, saved under a name
+abbrev pub rewrite_of : List ℕ → List ℕ → List ℕ → Effect
+rewrite_of new input bytes = of_rewriting new input (rewriting_of bytes)
+
+-- ---- commands
 
 abbrev pub of_command : Files → List ℕ → Option Command → Effect
 of_command files input None = only Usage input
-of_command files input (Some (Run file fuel)) = of_content fuel input (files file)
+of_command files input (Some (Run file fuel)) = of_content (run_of fuel input) input (files file)
+of_command files input (Some (Rewrite file new)) = of_content (rewrite_of new input) input (files file)
 
 -- what the words do, given the store's files and the input
 abbrev pub effect_of : List (List ℕ) → Files → List ℕ → Effect
 effect_of words files input = of_command files input (command_of words)
 
--- an answer that comes before a run
+-- ---- causes, and what stays
+
+-- a refusal, or an answer that comes in its place
 abbrev pub is_refusal : Status → Bool
+is_refusal Done = false
 is_refusal (Exited code) = false
 is_refusal (Faulted kind pc addr) = false
 is_refusal Spent = false
@@ -93,12 +129,36 @@ is_refusal OutOfMemory = true
 abbrev pub LacksFile : Option Command → Option Files → Type 0
 LacksFile None files = ⊥
 LacksFile (Some (Run file fuel)) files = Lacks files file
+LacksFile (Some (Rewrite file new)) files = Lacks files file
+
+-- a command that runs a guest
+abbrev pub is_run : Option Command → Bool
+is_run None = false
+is_run (Some (Run file fuel)) = true
+is_run (Some (Rewrite file new)) = false
+
+-- a command that saves a file
+abbrev pub is_saving : Option Command → Bool
+is_saving None = false
+is_saving (Some (Run file fuel)) = false
+is_saving (Some (Rewrite file new)) = true
+
+-- all files stay but for the one that the command saves
+abbrev pub OthersStay : Files → Option Files → Option Command → Type 0
+OthersStay m files None = files ≡ Some m
+OthersStay m files (Some (Run file fuel)) = files ≡ Some m
+OthersStay m files (Some (Rewrite file new)) = SameButIn m files new
+
+-- the files are those before, with the one that is saved
+abbrev pub AreSaved : Files → Option Files → Option File → Type 0
+AreSaved m files None = files ≡ Some m
+AreSaved m files (Some file) = SavedIn m files file.0 file.1
 
 -- a first part was written of the report of an answer: of the one that the command has, or of one
 -- that the outside or want of memory put in its place
 pub record IsPartOfReport (before : List ℕ) (effect : Effect) (written : Option (List ℕ)) : Type 0 where
   pub replaced : Status
-  pub steps : ℕ
-  pub is : (is_from_outside replaced ≡ true) ⊎ ((replaced ≡ effect.status) × (steps ≡ effect.steps))
+  pub counts : Counts
+  pub is : (is_from_outside replaced ≡ true) ⊎ ((replaced ≡ effect.status) × (counts ≡ effect.counts))
   pub count : ℕ
-  pub are : written ≡ Some (before ++ take count (report_of steps replaced))
+  pub are : written ≡ Some (before ++ take count (report_of counts replaced))

@@ -1,5 +1,6 @@
 pub mod Words
 pub mod Reading
 pub mod Status
+pub mod Counts
 pub mod Texts
 pub mod Effect

@@ -1,10 +1,11 @@
 -- What a command answers.
 use Rattle.std.specs.Prelude.{ℕ, Bool, true, false}
 use Rattle.rewrite_cli.specs.declared.status.Status.{Status}
-use Rattle.rewrite_cli.specs.declared.status.Status.TheVariants.{Exited, Faulted, Spent, Usage, Refused, StoreFault, ReadFault, WriteFault, OutOfMemory}
+use Rattle.rewrite_cli.specs.declared.status.Status.TheVariants.{Done, Exited, Faulted, Spent, Usage, Refused, StoreFault, ReadFault, WriteFault, OutOfMemory}
 
 -- the exit status of the program
 abbrev pub exit_number_of : Status → ℕ
+exit_number_of Done = 0
 exit_number_of (Exited code) = code
 exit_number_of (Faulted kind pc addr) = 120
 exit_number_of Spent = 121
@@ -17,6 +18,7 @@ exit_number_of OutOfMemory = 128
 
 -- an answer that the outside or want of memory can give in place of any other
 abbrev pub is_from_outside : Status → Bool
+is_from_outside Done = false
 is_from_outside (Exited code) = false
 is_from_outside (Faulted kind pc addr) = false
 is_from_outside Spent = false
@@ -27,8 +29,9 @@ is_from_outside ReadFault = true
 is_from_outside WriteFault = true
 is_from_outside OutOfMemory = true
 
--- an answer that comes before anything is read or written
+-- an answer that comes before any of the input is read or any output is written
 abbrev pub is_early : Status → Bool
+is_early Done = true
 is_early (Exited code) = false
 is_early (Faulted kind pc addr) = false
 is_early Spent = false

@@ -6,9 +6,10 @@ use Rattle.rv64_decode.specs.declared.memory.MemFault.TheVariants.{Misaligned, U
 use Rattle.rv64_decode.specs.declared.outcome.Fault.{Fault}
 use Rattle.rv64_decode.specs.declared.outcome.Fault.TheVariants.{Fetch, Illegal, Break, Target, Load as LoadFault, Store as StoreRefused}
 use Rattle.rewrite_cli.specs.declared.status.Reason.{Reason}
-use Rattle.rewrite_cli.specs.declared.status.Reason.TheVariants.{LoadTooLong, NotElf, Unbuilt}
+use Rattle.rewrite_cli.specs.declared.status.Reason.TheVariants.{LoadTooLong, NotElf, Unbuilt, BadMark, Altered}
 use Rattle.rewrite_cli.specs.declared.status.Status.{Status}
-use Rattle.rewrite_cli.specs.declared.status.Status.TheVariants.{Exited, Faulted, Spent, Usage, Refused, StoreFault, ReadFault, WriteFault, OutOfMemory}
+use Rattle.rewrite_cli.specs.declared.counts.Counts.{Counts}
+use Rattle.rewrite_cli.specs.declared.status.Status.TheVariants.{Done, Exited, Faulted, Spent, Usage, Refused, StoreFault, ReadFault, WriteFault, OutOfMemory}
 
 -- a line
 abbrev pub line : List ℕ → List ℕ
@@ -37,6 +38,8 @@ abbrev pub reason_text : Reason → List ℕ
 reason_text (LoadTooLong limit) = codes "load-too-long " ++ decimal limit
 reason_text NotElf = codes "not-elf"
 reason_text Unbuilt = codes "unbuilt"
+reason_text BadMark = codes "bad-mark"
+reason_text (Altered offset) = codes "altered " ++ decimal offset
 
 abbrev pub usage_text : List ℕ
 usage_text = codes "usage: list FILE | rewrite FILE NEW | run FILE HARTS [FUEL [DUMP]] | replay FILE HARTS ORDER | make KIND N NEW"
@@ -45,23 +48,24 @@ usage_text = codes "usage: list FILE | rewrite FILE NEW | run FILE HARTS [FUEL [
 abbrev pub count_lines : ℕ → List ℕ
 count_lines steps = line (codes "hart 0 instructions " ++ decimal steps) ++ line (codes "steps " ++ decimal steps)
 
--- the report of an answer, after so many instructions
-abbrev pub report_of : ℕ → Status → List ℕ
-report_of steps (Exited code) = count_lines steps ++ line (codes "exit " ++ decimal code)
-report_of steps (Faulted kind pc addr) =
-    count_lines steps
+-- the report of an answer
+abbrev pub report_of : Counts → Status → List ℕ
+report_of counts Done = line (codes "rewritten entries " ++ (decimal counts.entries ++ (codes " words " ++ decimal counts.words)))
+report_of counts (Exited code) = count_lines counts.steps ++ line (codes "exit " ++ decimal code)
+report_of counts (Faulted kind pc addr) =
+    count_lines counts.steps
     ++ line (codes "fault " ++ (fault_text kind ++ (codes " pc 0x" ++ (hex16 pc ++ (codes " addr 0x" ++ hex16 addr)))))
-report_of steps Spent = line (codes "spent")
-report_of steps Usage = line usage_text
-report_of steps (Refused why) = line (codes "refused " ++ reason_text why)
-report_of steps StoreFault = line (codes "store-fault")
-report_of steps ReadFault = line (codes "read-fault")
-report_of steps WriteFault = []
-report_of steps OutOfMemory = line (codes "out-of-memory")
+report_of counts Spent = line (codes "spent")
+report_of counts Usage = line usage_text
+report_of counts (Refused why) = line (codes "refused " ++ reason_text why)
+report_of counts StoreFault = line (codes "store-fault")
+report_of counts ReadFault = line (codes "read-fault")
+report_of counts WriteFault = []
+report_of counts OutOfMemory = line (codes "out-of-memory")
 
 -- a first part was written of the report of this answer, or of that to want of memory for it
-pub record IsReportPart (before : List ℕ) (steps : ℕ) (status : Status) (written : Option (List ℕ)) : Type 0 where
+pub record IsReportPart (before : List ℕ) (counts : Counts) (status : Status) (written : Option (List ℕ)) : Type 0 where
   pub replaced : Status
   pub is : (replaced ≡ status) ⊎ (replaced ≡ OutOfMemory)
   pub count : ℕ
-  pub are : written ≡ Some (before ++ take count (report_of steps replaced))
+  pub are : written ≡ Some (before ++ take count (report_of counts replaced))

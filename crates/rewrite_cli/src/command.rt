@@ -4,9 +4,12 @@ ghost use Rattle.serial_run.specs.Ports.{IsPrefixOf};
 ghost use Rattle.rewrite_cli.specs.Words.{command_of};
 ghost use Rattle.rewrite_cli.specs.Status.{is_from_outside, is_early};
 ghost use Rattle.rewrite_cli.specs.Texts.{report_of};
-ghost use Rattle.rewrite_cli.specs.Effect.{effect_of, of_content, LacksFile, IsPartOfReport};
+ghost use Rattle.rewrite_cli.specs.Effect.{effect_of, of_content, run_of, is_run, is_saving, AreSaved, OthersStay, LacksFile, IsPartOfReport};
+ghost use Rattle.rewrite_cli.specs.declared.counts.Counts.{Counts as Shown};
 
+use crate::counts::NO_COUNTS;
 use crate::report::answer;
+use crate::rewriting::rewrite_file;
 use crate::run::run_file;
 use crate::status::Status;
 use crate::words::{Command, command_from};
@@ -24,13 +27,13 @@ fn run_command<S: Store, I: Source, O: Sink, P: Sink>(
     out: &mut O,
     report: &mut P,
 ) -> Status
-    ensures answer { (m : Files) (xs : List ℕ) → S.files store.old ≡ Some m → I.rest input.old ≡ Some xs → is_from_outside result ≡ false → result ≡ (of_content fuel xs (m file.now)).status }
-    ensures output { (m : Files) (xs ys : List ℕ) → S.files store.old ≡ Some m → I.rest input.old ≡ Some xs → is_from_outside result ≡ false → O.written out.old ≡ Some ys → O.written out.new ≡ Some (ys ++ (of_content fuel xs (m file.now)).output) }
-    ensures unread { (m : Files) (xs : List ℕ) → S.files store.old ≡ Some m → I.rest input.old ≡ Some xs → is_from_outside result ≡ false → I.rest input.new ≡ Some (of_content fuel xs (m file.now)).rest }
-    ensures report { (m : Files) (xs zs : List ℕ) → S.files store.old ≡ Some m → I.rest input.old ≡ Some xs → is_from_outside result ≡ false → P.written report.old ≡ Some zs → P.written report.new ≡ Some (zs ++ report_of (of_content fuel xs (m file.now)).steps result) }
-    ensures output_so_far { (m : Files) (xs ys : List ℕ) → S.files store.old ≡ Some m → I.rest input.old ≡ Some xs → O.written out.old ≡ Some ys → IsPrefixOf (O.written out.new) (ys ++ (of_content fuel xs (m file.now)).output) }
-    ensures report_of_answer { (zs : List ℕ) → result ≢ Status.WriteFault → P.written report.old ≡ Some zs → (n : ℕ) × (P.written report.new ≡ Some (zs ++ report_of n result)) }
-    ensures report_so_far { (m : Files) (xs zs : List ℕ) → S.files store.old ≡ Some m → I.rest input.old ≡ Some xs → result ≡ Status.WriteFault → P.written report.old ≡ Some zs → IsPartOfReport zs (of_content fuel xs (m file.now)) (P.written report.new) }
+    ensures answer { (m : Files) (xs : List ℕ) → S.files store.old ≡ Some m → I.rest input.old ≡ Some xs → is_from_outside result ≡ false → result ≡ (of_content (run_of fuel xs) xs (m file.now)).status }
+    ensures output { (m : Files) (xs ys : List ℕ) → S.files store.old ≡ Some m → I.rest input.old ≡ Some xs → is_from_outside result ≡ false → O.written out.old ≡ Some ys → O.written out.new ≡ Some (ys ++ (of_content (run_of fuel xs) xs (m file.now)).output) }
+    ensures unread { (m : Files) (xs : List ℕ) → S.files store.old ≡ Some m → I.rest input.old ≡ Some xs → is_from_outside result ≡ false → I.rest input.new ≡ Some (of_content (run_of fuel xs) xs (m file.now)).rest }
+    ensures report { (m : Files) (xs zs : List ℕ) → S.files store.old ≡ Some m → I.rest input.old ≡ Some xs → is_from_outside result ≡ false → P.written report.old ≡ Some zs → P.written report.new ≡ Some (zs ++ report_of (of_content (run_of fuel xs) xs (m file.now)).counts result) }
+    ensures output_so_far { (m : Files) (xs ys : List ℕ) → S.files store.old ≡ Some m → I.rest input.old ≡ Some xs → O.written out.old ≡ Some ys → IsPrefixOf (O.written out.new) (ys ++ (of_content (run_of fuel xs) xs (m file.now)).output) }
+    ensures report_of_answer { (zs : List ℕ) → result ≢ Status.WriteFault → P.written report.old ≡ Some zs → (counts : Shown) × (P.written report.new ≡ Some (zs ++ report_of counts result)) }
+    ensures report_so_far { (m : Files) (xs zs : List ℕ) → S.files store.old ≡ Some m → I.rest input.old ≡ Some xs → result ≡ Status.WriteFault → P.written report.old ≡ Some zs → IsPartOfReport zs (of_content (run_of fuel xs) xs (m file.now)) (P.written report.new) }
     ensures no_usage { result ≢ Status.Usage }
     ensures store_fault { result ≡ Status.StoreFault → Rose (S.faults store.old) (S.faults store.new) ⊎ Lacks (S.files store.old) file.now }
     ensures read_fault { result ≡ Status.ReadFault → Rose (I.faults input.old) (I.faults input.new) }
@@ -43,11 +46,11 @@ fn run_command<S: Store, I: Source, O: Sink, P: Sink>(
     if end.status == Status::WriteFault {
         return Status::WriteFault;
     }
-    answer(alloc, report, end.status, end.steps)
+    answer(alloc, report, end.status, &end.counts)
 }
 
-/// Does what the words say, writes the guest's output to `out` and the report to `report`, and
-/// answers how it went. `rt` is lent to running harts, and `gate` is passed by each of them.
+/// Does what the words say, writes the guest's output to `out` and the report to `report`, saves what
+/// it makes in `store`, and answers how it went. `rt` is lent to running harts, and `gate` is passed by each of them.
 pub fn command<R: Threads + Sync, S: Store, I: Source, O: Sink, P: Sink, G: Gate>(
     _rt: &R,
     alloc: Global,
@@ -62,12 +65,12 @@ pub fn command<R: Threads + Sync, S: Store, I: Source, O: Sink, P: Sink, G: Gate
     ensures answer { (m : Files) (xs : List ℕ) → S.files store.old ≡ Some m → I.rest input.old ≡ Some xs → is_from_outside result ≡ false → result ≡ (effect_of (map string_bytes words.now) m xs).status }
     ensures output { (m : Files) (xs ys : List ℕ) → S.files store.old ≡ Some m → I.rest input.old ≡ Some xs → is_from_outside result ≡ false → O.written out.old ≡ Some ys → O.written out.new ≡ Some (ys ++ (effect_of (map string_bytes words.now) m xs).output) }
     ensures unread { (m : Files) (xs : List ℕ) → S.files store.old ≡ Some m → I.rest input.old ≡ Some xs → is_from_outside result ≡ false → I.rest input.new ≡ Some (effect_of (map string_bytes words.now) m xs).rest }
-    ensures report { (m : Files) (xs zs : List ℕ) → S.files store.old ≡ Some m → I.rest input.old ≡ Some xs → is_from_outside result ≡ false → P.written report.old ≡ Some zs → P.written report.new ≡ Some (zs ++ report_of (effect_of (map string_bytes words.now) m xs).steps result) }
+    ensures report { (m : Files) (xs zs : List ℕ) → S.files store.old ≡ Some m → I.rest input.old ≡ Some xs → is_from_outside result ≡ false → P.written report.old ≡ Some zs → P.written report.new ≡ Some (zs ++ report_of (effect_of (map string_bytes words.now) m xs).counts result) }
 
     // Whatever the answer is: the output is a first part of what the command writes, and the report
     // is that of the answer.
     ensures output_so_far { (m : Files) (xs ys : List ℕ) → S.files store.old ≡ Some m → I.rest input.old ≡ Some xs → O.written out.old ≡ Some ys → IsPrefixOf (O.written out.new) (ys ++ (effect_of (map string_bytes words.now) m xs).output) }
-    ensures report_of_answer { (zs : List ℕ) → result ≢ Status.WriteFault → P.written report.old ≡ Some zs → (n : ℕ) × (P.written report.new ≡ Some (zs ++ report_of n result)) }
+    ensures report_of_answer { (zs : List ℕ) → result ≢ Status.WriteFault → P.written report.old ≡ Some zs → (counts : Shown) × (P.written report.new ≡ Some (zs ++ report_of counts result)) }
     ensures report_so_far { (m : Files) (xs zs : List ℕ) → S.files store.old ≡ Some m → I.rest input.old ≡ Some xs → result ≡ Status.WriteFault → P.written report.old ≡ Some zs → IsPartOfReport zs (effect_of (map string_bytes words.now) m xs) (P.written report.new) }
 
     // Each answer has its cause.
@@ -77,16 +80,20 @@ pub fn command<R: Threads + Sync, S: Store, I: Source, O: Sink, P: Sink, G: Gate
     ensures read_fault { result ≡ Status.ReadFault → Rose (I.faults input.old) (I.faults input.new) }
     ensures write_fault { result ≡ Status.WriteFault → Rose (O.faults out.old) (O.faults out.new) ⊎ Rose (P.faults report.old) (P.faults report.new) }
 
-    // What stays.
+    // What is saved, and what stays.
+    ensures saved { (m : Files) (xs : List ℕ) → S.files store.old ≡ Some m → is_from_outside result ≡ false → AreSaved m (S.files store.new) (effect_of (map string_bytes words.now) m xs).saved }
+    ensures others_stay { (m : Files) → S.files store.old ≡ Some m → OthersStay m (S.files store.new) (command_of (map string_bytes words.now)) }
+    ensures files_stay { result ≢ Status.Done → result ≢ Status.StoreFault → result ≢ Status.WriteFault → S.files store.new ≡ S.files store.old }
+    ensures none_saved { is_saving (command_of (map string_bytes words.now)) ≡ false → S.files store.new ≡ S.files store.old }
     ensures store_unasked { command_of (map string_bytes words.now) ≡ None → store.new ≡ store.old }
-    ensures input_unasked { command_of (map string_bytes words.now) ≡ None → input.new ≡ input.old }
-    ensures output_unasked { command_of (map string_bytes words.now) ≡ None → out.new ≡ out.old }
+    ensures input_unasked { is_run (command_of (map string_bytes words.now)) ≡ false → input.new ≡ input.old }
+    ensures output_unasked { is_run (command_of (map string_bytes words.now)) ≡ false → out.new ≡ out.old }
     ensures input_untouched { is_early result ≡ true → input.new ≡ input.old }
     ensures output_untouched { is_early result ≡ true → out.new ≡ out.old }
-    ensures files_stay { S.files store.new ≡ S.files store.old }
 {
     match command_from(words) {
-        Command::Unknown => answer(alloc, report, Status::Usage, 0),
+        Command::Unknown => answer(alloc, report, Status::Usage, &NO_COUNTS),
+        Command::Rewrite { file, new } => rewrite_file(alloc, file, new, store, report),
         Command::Run { file, fuel } => run_command(alloc, file, fuel, store, input, out, report),
     }
 }

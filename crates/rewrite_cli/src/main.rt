@@ -1,8 +1,11 @@
-//! Runs static RV64IM executables.
+//! Runs and rewrites static RV64IM executables.
 #![tactic(auto)]
 
 mod command;
+mod counts;
+mod loading;
 mod report;
+mod rewriting;
 mod run;
 mod status;
 #[cfg(test)]

@@ -1,7 +1,9 @@
-ghost use Rattle.std.specs.Prelude.{◌≡◌, ◌+◌, ◌-◌, ◌<◌, ◌≤◌, ◌++◌, ◌⊎◌, ◌≢◌, ℕ, List, Some, length, take, string_bytes, codes, IfOk, OnOk, OnErr, IsOk, IsErr};
+ghost use Rattle.std.specs.Prelude.{◌≡◌, ◌+◌, ◌-◌, ◌<◌, ◌≤◌, ◌++◌, ◌⊎◌, ◌≢◌, ℕ, List, Some, length, take, string_bytes, codes, decimal, IfOk, OnOk, OnErr, IsOk, IsErr};
 ghost use Rattle.outside_ports.specs.Ports.{Rose};
+ghost use Rattle.rewrite_cli.specs.Counts.{of_steps};
 ghost use Rattle.rewrite_cli.specs.Texts.{report_of, fault_text, why_text, reason_text, count_lines, line, usage_text, IsReportPart};
 
+use crate::counts::Counts;
 use crate::status::{Reason, Status};
 use outside_ports::{Failed, Sink};
 use rv64_decode::{Fault, MemFault};
@@ -58,11 +60,13 @@ fn reason_line(alloc: Global, why: Reason) -> Result<String, AllocError>
         Reason::LoadTooLong { limit } => format!(in alloc; "refused load-too-long {limit}\n"),
         Reason::NotElf => String::from_str(alloc, "refused not-elf\n"),
         Reason::Unbuilt => String::from_str(alloc, "refused unbuilt\n"),
+        Reason::BadMark => String::from_str(alloc, "refused bad-mark\n"),
+        Reason::Altered { offset } => format!(in alloc; "refused altered {offset}\n"),
     }
 }
 
 fn exit_text(alloc: Global, steps: u64, code: u8) -> Result<String, AllocError>
-    ensures { IfOk result (λ s. string_bytes s ≡ report_of steps (Status.Exited code)) }
+    ensures { IfOk result (λ s. string_bytes s ≡ report_of (of_steps steps) (Status.Exited code)) }
 {
     let mut text = count_text(alloc, steps)?;
     let line = format!(in alloc; "exit {code}\n")?;
@@ -77,7 +81,7 @@ fn fault_report(
     pc: u64,
     addr: u64,
 ) -> Result<String, AllocError>
-    ensures { IfOk result (λ s. string_bytes s ≡ report_of steps (Status.Faulted kind pc addr)) }
+    ensures { IfOk result (λ s. string_bytes s ≡ report_of (of_steps steps) (Status.Faulted kind pc addr)) }
 {
     let mut text = count_text(alloc, steps)?;
     let kind = fault_name(alloc, kind)?;
@@ -86,11 +90,23 @@ fn fault_report(
     Ok(text)
 }
 
-/// The report of an answer, after so many instructions.
-pub fn report_text(alloc: Global, status: &Status, steps: u64) -> Result<String, AllocError>
-    ensures { IfOk result (λ s. string_bytes s ≡ report_of steps status.now) }
+// What an image adds to its original.
+fn image_text(alloc: Global, entries: u32, words: u32) -> Result<String, AllocError>
+    ensures { IfOk result (λ s. string_bytes s ≡ line (codes "rewritten entries " ++ (decimal entries ++ (codes " words " ++ decimal words)))) }
 {
+    let mut text = format!(in alloc; "rewritten entries {entries}")?;
+    let added = format!(in alloc; " words {words}\n")?;
+    text.push_str(added.as_str())?;
+    Ok(text)
+}
+
+/// The report of an answer.
+pub fn report_text(alloc: Global, status: &Status, counts: &Counts) -> Result<String, AllocError>
+    ensures { IfOk result (λ s. string_bytes s ≡ report_of counts.now status.now) }
+{
+    let steps = counts.steps;
     match *status {
+        Status::Done => image_text(alloc, counts.entries, counts.words),
         Status::Exited(code) => exit_text(alloc, steps, code),
         Status::Faulted { kind, pc, addr } => fault_report(alloc, steps, kind, pc, addr),
         Status::Spent => String::from_str(alloc, "spent\n"),
@@ -122,8 +138,9 @@ pub fn write_all<P: Sink>(report: &mut P, bytes: &[u8]) -> Result<(), Failed>
 
 const OUT_OF_MEMORY: &[u8] = b"out-of-memory\n";
 
-// Writes the report of this answer, and says what the answer is now.
-fn write_answer<P: Sink>(report: &mut P, bytes: &[u8], status: Status) -> Status
+/// Writes the report of this answer, and says what the answer is now: `WriteFault` stands in its
+/// place where the report is not written as a whole.
+pub fn write_answer<P: Sink>(report: &mut P, bytes: &[u8], status: Status) -> Status
     ensures answer { (result ≡ status) ⊎ (result ≡ Status.WriteFault) }
     ensures written { (zs : List ℕ) → result ≢ Status.WriteFault → P.written report.old ≡ Some zs → P.written report.new ≡ Some (zs ++ bytes.now) }
     ensures prefix { (zs : List ℕ) → status ≢ Status.WriteFault → result ≡ Status.WriteFault → P.written report.old ≡ Some zs → (k : ℕ) × (P.written report.new ≡ Some (zs ++ take k bytes.now)) }
@@ -139,15 +156,15 @@ fn write_answer<P: Sink>(report: &mut P, bytes: &[u8], status: Status) -> Status
 /// Answers with this status: writes its report, and says what the answer is now. `OutOfMemory` stands
 /// in its place where there is no memory for the report, and `WriteFault` where the report is not
 /// written as a whole.
-pub fn answer<P: Sink>(alloc: Global, report: &mut P, status: Status, steps: u64) -> Status
+pub fn answer<P: Sink>(alloc: Global, report: &mut P, status: Status, counts: &Counts) -> Status
     requires { status ≢ Status.WriteFault }
     ensures answer { (result ≡ status) ⊎ ((result ≡ Status.OutOfMemory) ⊎ (result ≡ Status.WriteFault)) }
-    ensures reported { (zs : List ℕ) → result ≢ Status.WriteFault → P.written report.old ≡ Some zs → P.written report.new ≡ Some (zs ++ report_of steps result) }
-    ensures prefix { (zs : List ℕ) → result ≡ Status.WriteFault → P.written report.old ≡ Some zs → IsReportPart zs steps status (P.written report.new) }
+    ensures reported { (zs : List ℕ) → result ≢ Status.WriteFault → P.written report.old ≡ Some zs → P.written report.new ≡ Some (zs ++ report_of counts.now result) }
+    ensures prefix { (zs : List ℕ) → result ≡ Status.WriteFault → P.written report.old ≡ Some zs → IsReportPart zs counts.now status (P.written report.new) }
     ensures write_fault { result ≡ Status.WriteFault → Rose (P.faults report.old) (P.faults report.new) }
     ensures never_falls { P.faults report.old ≤ P.faults report.new }
 {
-    match report_text(alloc, &status, steps) {
+    match report_text(alloc, &status, counts) {
         Ok(text) => write_answer(report, text.as_bytes(), status),
         Err(_) => write_answer(report, OUT_OF_MEMORY, Status::OutOfMemory),
     }

@@ -1,57 +1,42 @@
 ghost use Rattle.std.specs.Prelude.{◌≡◌, ◌≢◌, ◌<◌, ◌≤◌, ◌++◌, ◌⊎◌, ℕ, List, Some, true, false, length, IfOk, IfErr, OnErr};
 ghost use Rattle.outside_ports.specs.Ports.{Files, Rose, Lacks};
 ghost use Rattle.elf_image.specs.Layout.{IsLoadable};
-ghost use Rattle.elf_image.specs.Reading.{reading_of};
+ghost use Rattle.rewriter.specs.Admission.{Admitted, admission_of};
 ghost use Rattle.serial_run.specs.Serial.{start_of};
 ghost use Rattle.serial_run.specs.Ports.{IsPrefixOf};
 ghost use Rattle.rewrite_cli.specs.Status.{is_from_outside, is_early};
-ghost use Rattle.rewrite_cli.specs.Effect.{load_limit, only, ran, of_reading, of_bytes, of_content, status_of_end, is_refusal};
+ghost use Rattle.rewrite_cli.specs.Effect.{only, ran, run_of, of_content, status_of_end, is_refusal};
 
+use crate::counts::{Counts, NO_COUNTS};
+use crate::loading::{load, refusal};
 use crate::status::{Reason, Status};
-use elf_image::{Elf, ElfErr, read_elf};
-use outside_ports::{Sink, Source, Store, StoreErr};
+use elf_image::Elf;
+use image_writer::Image;
+use outside_ports::{Sink, Source, Store};
+use rewriter::{AdmitErr, admit};
 use serial_run::{End, run_counted, start};
 use std::alloc::Global;
 
-/// The longest file that is loaded, in bytes.
-const LOAD_LIMIT: u64 = 84_934_656;
-
-/// The answer to a run, and how many instructions it has executed.
+/// The answer to a run, and what its report counts.
 #[derive(Clone, Copy, PartialEq, Eq, Debug)]
 pub struct RunEnd {
     pub status: Status,
-    pub steps: u64,
+    pub counts: Counts,
 }
 
-// All bytes of a file.
-fn load<S: Store>(alloc: Global, store: &mut S, file: &str) -> Result<Vec<u8>, Status>
-    ensures content { IfOk result (λ v. (m : Files) → S.files store.old ≡ Some m → (fuel : ℕ) (xs : List ℕ) → of_content fuel xs (m file.now) ≡ of_reading fuel xs (reading_of v.items)) }
-    ensures refused { IfErr result (λ e. is_from_outside e ≡ false → (m : Files) → S.files store.old ≡ Some m → (fuel : ℕ) (xs : List ℕ) → of_content fuel xs (m file.now) ≡ only e xs) }
-    ensures failed { result ≡ Err Status.StoreFault → Rose (S.faults store.old) (S.faults store.new) ⊎ Lacks (S.files store.old) file.now }
-    ensures kind { IfErr result (λ e. is_refusal e ≡ true) }
-    ensures same { S.files store.new ≡ S.files store.old }
-    ensures never_falls { S.faults store.old ≤ S.faults store.new }
-{
-    match store.load(alloc, file, LOAD_LIMIT) {
-        Ok(bytes) => Ok(bytes),
-        Err(StoreErr::Failed) => Err(Status::StoreFault),
-        Err(StoreErr::TooLong) => Err(Status::Refused(Reason::LoadTooLong { limit: LOAD_LIMIT })),
-        Err(StoreErr::OutOfMemory) => Err(Status::OutOfMemory),
-    }
-}
-
-// The executable that these bytes are.
-fn read(alloc: Global, bytes: &[u8]) -> Result<Elf, Status>
-    ensures accepted { IfOk result (λ elf. reading_of bytes.now ≡ Ok elf) }
-    ensures loadable { IfOk result IsLoadable }
-    ensures refused { IfErr result (λ e. is_from_outside e ≡ false → (fuel : ℕ) (xs : List ℕ) → of_reading fuel xs (reading_of bytes.now) ≡ only e xs) }
+// The image that a file with these bytes is.
+fn admitted(alloc: Global, bytes: &[u8]) -> Result<Image, Status>
+    ensures accepted { IfOk result (λ image. admission_of bytes.now ≡ Admitted image) }
+    ensures loadable { IfOk result (λ image. IsLoadable image.elf) }
+    ensures refused { IfErr result (λ e. is_from_outside e ≡ false → (fuel : ℕ) (xs : List ℕ) → run_of fuel xs bytes.now ≡ only e xs) }
     ensures kind { IfErr result (λ e. (is_refusal e ≡ true) × (e ≢ Status.StoreFault)) }
 {
-    match read_elf(alloc, bytes) {
-        Ok(elf) => Ok(elf),
-        Err(ElfErr::NotElf) => Err(Status::Refused(Reason::NotElf)),
-        Err(ElfErr::Unbuilt) => Err(Status::Refused(Reason::Unbuilt)),
-        Err(ElfErr::OutOfMemory) => Err(Status::OutOfMemory),
+    match admit(alloc, bytes) {
+        Ok(image) => Ok(image),
+        Err(AdmitErr::BadMark) => Err(Status::Refused(Reason::BadMark)),
+        Err(AdmitErr::Original(why)) => Err(refusal(why)),
+        Err(AdmitErr::Altered { offset }) => Err(Status::Refused(Reason::Altered { offset })),
+        Err(AdmitErr::OutOfMemory) => Err(Status::OutOfMemory),
     }
 }
 
@@ -77,7 +62,7 @@ fn run_elf<I: Source, O: Sink>(
 ) -> RunEnd
     requires { IsLoadable elf.now }
     ensures status { (xs : List ℕ) → I.rest input.old ≡ Some xs → is_from_outside result.status ≡ false → result.status ≡ (ran fuel (start_of elf.now xs)).status }
-    ensures steps { (xs : List ℕ) → I.rest input.old ≡ Some xs → is_from_outside result.status ≡ false → result.steps ≡ (ran fuel (start_of elf.now xs)).steps }
+    ensures counts { (xs : List ℕ) → I.rest input.old ≡ Some xs → is_from_outside result.status ≡ false → result.counts ≡ (ran fuel (start_of elf.now xs)).counts }
     ensures rest { (xs : List ℕ) → I.rest input.old ≡ Some xs → is_from_outside result.status ≡ false → I.rest input.new ≡ Some (ran fuel (start_of elf.now xs)).rest }
     ensures output { (xs ys : List ℕ) → I.rest input.old ≡ Some xs → is_from_outside result.status ≡ false → O.written out.old ≡ Some ys → O.written out.new ≡ Some (ys ++ (ran fuel (start_of elf.now xs)).output) }
     ensures prefix { (xs ys : List ℕ) → I.rest input.old ≡ Some xs → O.written out.old ≡ Some ys → IsPrefixOf (O.written out.new) (ys ++ (ran fuel (start_of elf.now xs)).output) }
@@ -90,33 +75,33 @@ fn run_elf<I: Source, O: Sink>(
     let Ok(mut machine) = start(alloc, elf) else {
         return RunEnd {
             status: Status::OutOfMemory,
-            steps: 0,
+            counts: NO_COUNTS,
         };
     };
     let ran = run_counted(&mut machine, fuel, input, out);
     RunEnd {
         status: status_from(ran.end),
-        steps: ran.steps,
+        counts: Counts::of_run(ran.steps),
     }
 }
 
-// The executable under a name.
-fn load_elf<S: Store>(alloc: Global, store: &mut S, file: &str) -> Result<Elf, Status>
-    ensures accepted { IfOk result (λ elf. (m : Files) → S.files store.old ≡ Some m → (fuel : ℕ) (xs : List ℕ) → of_content fuel xs (m file.now) ≡ ran fuel (start_of elf xs)) }
-    ensures loadable { IfOk result IsLoadable }
-    ensures refused { IfErr result (λ e. is_from_outside e ≡ false → (m : Files) → S.files store.old ≡ Some m → (fuel : ℕ) (xs : List ℕ) → of_content fuel xs (m file.now) ≡ only e xs) }
+// The image under a name.
+fn load_image<S: Store>(alloc: Global, store: &mut S, file: &str) -> Result<Image, Status>
+    ensures accepted { IfOk result (λ image. (m : Files) → S.files store.old ≡ Some m → (fuel : ℕ) (xs : List ℕ) → of_content (run_of fuel xs) xs (m file.now) ≡ ran fuel (start_of image.elf xs)) }
+    ensures loadable { IfOk result (λ image. IsLoadable image.elf) }
+    ensures refused { IfErr result (λ e. is_from_outside e ≡ false → (m : Files) → S.files store.old ≡ Some m → (fuel : ℕ) (xs : List ℕ) → of_content (run_of fuel xs) xs (m file.now) ≡ only e xs) }
     ensures failed { result ≡ Err Status.StoreFault → Rose (S.faults store.old) (S.faults store.new) ⊎ Lacks (S.files store.old) file.now }
     ensures kind { IfErr result (λ e. is_refusal e ≡ true) }
     ensures same { S.files store.new ≡ S.files store.old }
     ensures never_falls { S.faults store.old ≤ S.faults store.new }
 {
     match load(alloc, store, file) {
-        Ok(bytes) => read(alloc, bytes.as_slice()),
+        Ok(bytes) => admitted(alloc, bytes.as_slice()),
         Err(status) => Err(status),
     }
 }
 
-/// Runs the executable of this name for at most `fuel` instructions. What it does, where the store,
+/// Runs the image or the executable of this name for at most `fuel` instructions. What it does, where the store,
 /// the input and the output tell their content, is said of the bytes that the store has under the
 /// name. A refusal and a fault of the store come before anything is read or written.
 pub fn run_file<S: Store, I: Source, O: Sink>(
@@ -127,11 +112,11 @@ pub fn run_file<S: Store, I: Source, O: Sink>(
     input: &mut I,
     out: &mut O,
 ) -> RunEnd
-    ensures status { (m : Files) (xs : List ℕ) → S.files store.old ≡ Some m → I.rest input.old ≡ Some xs → is_from_outside result.status ≡ false → result.status ≡ (of_content fuel xs (m file.now)).status }
-    ensures steps { (m : Files) (xs : List ℕ) → S.files store.old ≡ Some m → I.rest input.old ≡ Some xs → is_from_outside result.status ≡ false → result.steps ≡ (of_content fuel xs (m file.now)).steps }
-    ensures rest { (m : Files) (xs : List ℕ) → S.files store.old ≡ Some m → I.rest input.old ≡ Some xs → is_from_outside result.status ≡ false → I.rest input.new ≡ Some (of_content fuel xs (m file.now)).rest }
-    ensures output { (m : Files) (xs ys : List ℕ) → S.files store.old ≡ Some m → I.rest input.old ≡ Some xs → is_from_outside result.status ≡ false → O.written out.old ≡ Some ys → O.written out.new ≡ Some (ys ++ (of_content fuel xs (m file.now)).output) }
-    ensures prefix { (m : Files) (xs ys : List ℕ) → S.files store.old ≡ Some m → I.rest input.old ≡ Some xs → O.written out.old ≡ Some ys → IsPrefixOf (O.written out.new) (ys ++ (of_content fuel xs (m file.now)).output) }
+    ensures status { (m : Files) (xs : List ℕ) → S.files store.old ≡ Some m → I.rest input.old ≡ Some xs → is_from_outside result.status ≡ false → result.status ≡ (of_content (run_of fuel xs) xs (m file.now)).status }
+    ensures counts { (m : Files) (xs : List ℕ) → S.files store.old ≡ Some m → I.rest input.old ≡ Some xs → is_from_outside result.status ≡ false → result.counts ≡ (of_content (run_of fuel xs) xs (m file.now)).counts }
+    ensures rest { (m : Files) (xs : List ℕ) → S.files store.old ≡ Some m → I.rest input.old ≡ Some xs → is_from_outside result.status ≡ false → I.rest input.new ≡ Some (of_content (run_of fuel xs) xs (m file.now)).rest }
+    ensures output { (m : Files) (xs ys : List ℕ) → S.files store.old ≡ Some m → I.rest input.old ≡ Some xs → is_from_outside result.status ≡ false → O.written out.old ≡ Some ys → O.written out.new ≡ Some (ys ++ (of_content (run_of fuel xs) xs (m file.now)).output) }
+    ensures prefix { (m : Files) (xs ys : List ℕ) → S.files store.old ≡ Some m → I.rest input.old ≡ Some xs → O.written out.old ≡ Some ys → IsPrefixOf (O.written out.new) (ys ++ (of_content (run_of fuel xs) xs (m file.now)).output) }
 
     ensures no_usage { result.status ≢ Status.Usage }
     ensures store_fault { result.status ≡ Status.StoreFault → Rose (S.faults store.old) (S.faults store.new) ⊎ Lacks (S.files store.old) file.now }
@@ -145,8 +130,11 @@ pub fn run_file<S: Store, I: Source, O: Sink>(
     ensures input_never_falls { I.faults input.old ≤ I.faults input.new }
     ensures output_never_falls { O.faults out.old ≤ O.faults out.new }
 {
-    match load_elf(alloc, store, file) {
-        Ok(elf) => run_elf(alloc, &elf, fuel, input, out),
-        Err(status) => RunEnd { status, steps: 0 },
+    match load_image(alloc, store, file) {
+        Ok(image) => run_elf(alloc, &image.elf, fuel, input, out),
+        Err(status) => RunEnd {
+            status,
+            counts: NO_COUNTS,
+        },
     }
 }

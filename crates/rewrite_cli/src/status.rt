@@ -13,11 +13,18 @@ pub enum Reason {
     NotElf,
     /// The file is of a form that is not read yet.
     Unbuilt,
+    /// The file is marked as an image, but not whole.
+    BadMark,
+    /// The file is not the image of its original part: the first byte that differs, or the shorter
+    /// length where one is the beginning of the other.
+    Altered { offset: u64 },
 }
 
 /// What a command answers.
 #[derive(Clone, Copy, PartialEq, Eq, Debug)]
 pub enum Status {
+    /// What the command makes has been saved.
+    Done,
     /// The guest called exit with this code.
     Exited(u8),
     /// The guest's instruction at `pc` faulted; `addr` is the address that was refused, the target of
@@ -40,11 +47,13 @@ pub enum Status {
 }
 
 impl Status {
-    /// The program's exit status: the guest's code after `Exited`, and from 120 on for the others.
+    /// The program's exit status: 0 after `Done`, the guest's code after `Exited`, and from 120 on for
+    /// the others.
     pub fn exit_number(&self) -> u8
         ensures { result ≡ exit_number_of self.now }
     {
         match *self {
+            Status::Done => 0,
             Status::Exited(code) => code,
             Status::Faulted { .. } => 120,
             Status::Spent => 121,

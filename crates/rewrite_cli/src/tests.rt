@@ -1,4 +1,5 @@
 use crate::command::command;
+use crate::counts::{Counts, NO_COUNTS};
 use crate::report::report_text;
 use crate::run::run_file;
 use crate::status::{Reason, Status};
@@ -20,6 +21,12 @@ static HELLO: [u32; 9] = [
     0x0400_0893, // addi a7,x0,64
     0x0000_0073, // ecall
     0x0000_0513, // addi a0,x0,0
+    0x05d0_0893, // addi a7,x0,93
+    0x0000_0073, // ecall
+];
+
+// Ends with code 0.
+static EXIT: [u32; 2] = [
     0x05d0_0893, // addi a7,x0,93
     0x0000_0073, // ecall
 ];
@@ -442,6 +449,11 @@ fn other_words_are_no_command(rt: HostRuntime) -> Result<(), Fail> {
         "Run file 1",
         "runs file 1",
         "walk file 1",
+        "rewrite",
+        "rewrite file",
+        "rewrite file new 1",
+        "Rewrite file new",
+        "list file",
         "file 1 run",
     ] {
         let mut at = prepared(rt.alloc(), file.as_slice(), "in", 200, failing)?;
@@ -532,7 +544,10 @@ fn fuel_ends_a_run(rt: HostRuntime) -> Result<(), Fail> {
             &mut at.out,
         );
         assert!(rt; end.status == status, "fuel {fuel}");
-        assert!(rt; end.steps == fuel.min(9), "steps after {fuel}");
+        assert!(rt;
+            end.counts == Counts::of_run(fuel.min(9)),
+            "steps after {fuel}"
+        );
         assert!(rt; at.out.bytes() == out.as_bytes(), "output after {fuel}");
     }
     Ok(())
@@ -548,21 +563,156 @@ fn answers_have_their_lines_and_numbers(rt: HostRuntime) -> Result<(), Fail> {
     let denied =
         "hart 0 instructions 18446744073709551615\nsteps 18446744073709551615\nfault load-denied pc 0xfedcba9876543210 addr 0xffffffffffffffff\n";
     let limit = 67_108_864;
-    for (status, steps, text, number) in [
-        (Status::Spent, 7, "spent\n", 121),
-        (Status::OutOfMemory, 7, "out-of-memory\n", 128),
-        (Status::WriteFault, 7, "", 127),
-        (Status::Faulted { kind, pc, addr }, u64::MAX, denied, 120),
+    let made = Counts {
+        steps: 7,
+        entries: u32::MAX,
+        words: 717,
+    };
+    for (status, counts, text, number) in [
+        (Status::Spent, Counts::of_run(7), "spent\n", 121),
+        (Status::OutOfMemory, NO_COUNTS, "out-of-memory\n", 128),
+        (Status::WriteFault, NO_COUNTS, "", 127),
+        (
+            Status::Faulted { kind, pc, addr },
+            Counts::of_run(u64::MAX),
+            denied,
+            120,
+        ),
         (
             Status::Refused(Reason::LoadTooLong { limit }),
-            7,
+            NO_COUNTS,
             "refused load-too-long 67108864\n",
             124,
         ),
+        (
+            Status::Done,
+            made,
+            "rewritten entries 4294967295 words 717\n",
+            0,
+        ),
     ] {
-        let report = report_text(rt.alloc(), &status, steps)?;
+        let report = report_text(rt.alloc(), &status, &counts)?;
         assert!(rt; report.as_str() == text, "not: {text}");
         assert!(rt; status.exit_number() == number, "at {text}");
+    }
+    Ok(())
+}
+
+#[test]
+fn rewritten_file_runs_as_its_original(rt: HostRuntime) -> Result<(), Fail> {
+    let file = program(rt.alloc(), &EXIT, "")?;
+    assert!(rt; file.len() == 128);
+    let mut at = prepared(rt.alloc(), file.as_slice(), "in", 200, NONE_FAILS)?;
+    let status = answer_to(&rt, rt.alloc(), "rewrite file new", &mut at)?;
+    assert!(rt; status == Status::Done);
+    assert!(rt; status.exit_number() == 0);
+    assert!(rt; at.report.bytes() == b"rewritten entries 0 words 0\n".as_slice());
+    let image = at.store.get("new").ok_or("nothing is saved")?;
+    assert!(rt; image.len() == 288);
+    assert!(rt; at.store.get("file") == Some(file.as_slice()));
+    let status = answer_to(&rt, rt.alloc(), "run new 1", &mut at)?;
+    assert!(rt; status == Status::Exited(0));
+    assert!(rt;
+        at.report.bytes()
+            == b"rewritten entries 0 words 0\nhart 0 instructions 2\nsteps 2\nexit 0\n".as_slice()
+    );
+    let status = answer_to(&rt, rt.alloc(), "rewrite new file", &mut at)?;
+    assert!(rt; status == Status::Refused(Reason::Unbuilt));
+    assert!(rt; at.store.get("file") == Some(file.as_slice()));
+    assert!(rt; at.out.bytes().is_empty());
+    assert!(rt; at.input.rest() == b"in".as_slice());
+    Ok(())
+}
+
+// The image of `EXIT`, with one byte in another's place or at its end, or without its last byte.
+#[test]
+fn other_images_are_refused(rt: HostRuntime) -> Result<(), Fail> {
+    let file = program(rt.alloc(), &EXIT, "")?;
+    let mut at = prepared(rt.alloc(), file.as_slice(), "", 200, NONE_FAILS)?;
+    let status = answer_to(&rt, rt.alloc(), "rewrite file file", &mut at)?;
+    assert!(rt; status == Status::Done);
+    let image = at.store.get("file").ok_or("nothing is saved")?;
+    for (place, byte, report) in [
+        (188, Some(3), "refused altered 188\n"),
+        (244, Some(3), "refused bad-mark\n"),
+        (287, None, "refused bad-mark\n"),
+        (288, Some(0), "refused altered 288\n"),
+    ] {
+        let mut changed = Vec::from_slice(rt.alloc(), image)?;
+        match byte {
+            None => changed.truncate(place),
+            Some(byte) => match changed.get_mut(place) {
+                Some(old) => *old = byte,
+                None => changed.push(byte)?,
+            },
+        }
+        let mut at = prepared(rt.alloc(), changed.as_slice(), "in", 200, NONE_FAILS)?;
+        let status = answer_to(&rt, rt.alloc(), "run file 1", &mut at)?;
+        assert!(rt; at.report.bytes() == report.as_bytes(), "not: {report}");
+        assert!(rt; status.exit_number() == 124, "number at {report}");
+        assert!(rt; at.input.rest() == b"in".as_slice(), "input at {report}");
+    }
+    Ok(())
+}
+
+// `file` stays whatever happens, and where nothing is saved there is no `new`.
+#[test]
+fn rewriting_is_answered_where_the_outside_fails(rt: HostRuntime) -> Result<(), Fail> {
+    let file = program(rt.alloc(), &EXIT, "")?;
+    let store = |number| Failing {
+        load: Some(number),
+        ..NONE_FAILS
+    };
+    let report = Failing {
+        report: Some(0),
+        ..NONE_FAILS
+    };
+    for (words, failing, room, report, number, saved) in [
+        (
+            "rewrite file new",
+            store(0),
+            200,
+            "store-fault\n",
+            125,
+            false,
+        ),
+        (
+            "rewrite file new",
+            store(1),
+            200,
+            "store-fault\n",
+            125,
+            false,
+        ),
+        (
+            "rewrite files new",
+            NONE_FAILS,
+            200,
+            "store-fault\n",
+            125,
+            false,
+        ),
+        ("rewrite file new", report, 200, "", 127, true),
+        ("rewrite file new", NONE_FAILS, 9, "rewritten", 127, true),
+        (
+            "rewrite file new",
+            store(2),
+            200,
+            "rewritten entries 0 words 0\n",
+            0,
+            true,
+        ),
+    ] {
+        let mut at = prepared(rt.alloc(), file.as_slice(), "in", room, failing)?;
+        let status = answer_to(&rt, rt.alloc(), words, &mut at)?;
+        assert!(rt; at.report.bytes() == report.as_bytes(), "not: {report}");
+        assert!(rt; status.exit_number() == number, "number at {report}");
+        assert!(rt; at.store.get("new").is_some() == saved, "saved at {report}");
+        assert!(rt;
+            at.store.get("file") == Some(file.as_slice()),
+            "file at {report}"
+        );
+        assert!(rt; at.input.rest() == b"in".as_slice(), "input at {report}");
     }
     Ok(())
 }

@@ -10,6 +10,8 @@ pub const DEFAULT_FUEL: u64 = 1 << 40;
 pub enum Command<'a> {
     /// Run the executable of this name for at most so many instructions.
     Run { file: &'a str, fuel: u64 },
+    /// Rewrite the executable of this name, and save its image under another.
+    Rewrite { file: &'a str, new: &'a str },
     /// The words are no command.
     Unknown,
 }
@@ -18,13 +20,18 @@ pub enum Command<'a> {
 pub fn command_from<'a>(words: &'a [String]) -> Command<'a>
     ensures { command_shown result ≡ command_of (map string_bytes words.now) }
 {
-    let [verb, file, harts] = words else {
+    let [verb, file, third] = words else {
         return Command::Unknown;
     };
-    if verb.as_str() == "run" && harts.as_str() == "1" {
+    if verb.as_str() == "run" && third.as_str() == "1" {
         Command::Run {
             file: file.as_str(),
             fuel: DEFAULT_FUEL,
+        }
+    } else if verb.as_str() == "rewrite" {
+        Command::Rewrite {
+            file: file.as_str(),
+            new: third.as_str(),
         }
     } else {
         Command::Unknown

@@ -1,7 +1,9 @@
 use Rattle.std.proofs.Common.{◌≡◌, ◌++◌, ℕ, List, None, Some, Option, refl, ap, sym, ◌∙◌, map, string_bytes}
 use Rattle.rewrite_cli.specs.Words.{command_of}
 use Rattle.rewrite_cli.specs.Reading.{command_shown}
-use Rattle.rewrite_cli.specs.Effect.{Effect}
+use Rattle.rewrite_cli.specs.Effect.{Effect, only}
+use Rattle.rewrite_cli.specs.Counts.{no_counts}
+use Rattle.rewrite_cli.specs.declared.status.Status.TheVariants.{Usage}
 use Rattle.rewrite_cli.specs.Texts.{report_of}
 use Rattle.rewrite_cli.specs.declared.words.Command.{Command}
 use Rattle.rewrite_cli.proofs.Effects.{effect_run, effect_none, nothing_written, report_part}
@@ -13,7 +15,7 @@ returns-in-Unknown-clause-output_so_far g c = λ m xs ys files rest h. nothing_w
 pub returns-in-Unknown-clause-report_so_far : goal.returns-in-Unknown-clause-report_so_far
 returns-in-Unknown-clause-report_so_far g c = λ m xs zs files rest e h.
     let none = sym c.command_from.ensures ∙ ap command_shown c.in-Unknown.is in
-    rw (effect_none (map string_bytes c.args.words.now) m xs none) (report_part zs 0 _ _ _ (c.answer.ensures.prefix zs e h) (λ f. (refl, refl)))
+    rw (effect_none (map string_bytes c.args.words.now) m xs none) (report_part zs no_counts Usage (only Usage xs) _ (c.answer.ensures.prefix zs e h) (λ f. (refl, refl)))
 
 pub returns-in-Run-clause-answer : goal.returns-in-Run-clause-answer
 returns-in-Run-clause-answer g c = λ m xs files rest f.
@@ -35,7 +37,7 @@ pub returns-in-Run-clause-report : goal.returns-in-Run-clause-report
 returns-in-Run-clause-report g c = λ m xs zs files rest f h.
     let run = sym c.command_from.ensures ∙ ap command_shown c.in-Run.is in
     c.run_command.ensures.report m xs zs files rest f h
-    ∙ ap (λ (e : Effect). Some (zs ++ report_of e.steps c.run_command.result)) (sym (effect_run (map string_bytes c.args.words.now) m xs _ _ run))
+    ∙ ap (λ (e : Effect). Some (zs ++ report_of e.counts c.run_command.result)) (sym (effect_run (map string_bytes c.args.words.now) m xs _ _ run))
 
 pub returns-in-Run-clause-output_so_far : goal.returns-in-Run-clause-output_so_far
 returns-in-Run-clause-output_so_far g c = λ m xs ys files rest h.
@@ -46,3 +48,9 @@ pub returns-in-Run-clause-report_so_far : goal.returns-in-Run-clause-report_so_f
 returns-in-Run-clause-report_so_far g c = λ m xs zs files rest e h.
     let run = sym c.command_from.ensures ∙ ap command_shown c.in-Run.is in
     rw (effect_run (map string_bytes c.args.words.now) m xs _ _ run) (c.run_command.ensures.report_so_far m xs zs files rest e h)
+
+pub returns-in-Rewrite-clause-output_so_far : goal.returns-in-Rewrite-clause-output_so_far
+returns-in-Rewrite-clause-output_so_far g c = λ m xs ys files rest h. nothing_written _ ys _ h
+
+pub returns-in-Unknown-clause-report_of_answer : goal.returns-in-Unknown-clause-report_of_answer
+returns-in-Unknown-clause-report_of_answer g c = λ zs ne h. (no_counts, c.answer.ensures.reported zs ne h)

@@ -1,0 +1,22 @@
+use Rattle.std.proofs.Common.{◌≡◌, refl, inl, inr, ◌∙◌}
+use Rattle.rewrite_cli.specs.Counts.{no_counts}
+use Rattle.rewrite_cli.specs.declared.status.Status.TheVariants.{StoreFault}
+use Rattle.rewrite_cli.proofs.Effects.{report_part, part_of_text, others_of_saved}
+use Rattle.rewrite_cli.proofs.rewriting.save_image.Goals as goal
+
+pub returns-in_default-clause-prefix : goal.returns-in_default-clause-prefix
+returns-in_default-clause-prefix g c = λ xs zs e h. report_part zs _ _ _ _ (c.answer.ensures.prefix zs e h) (λ f. cc)
+
+pub returns-in-Ok-save-clause-others : goal.returns-in-Ok-save-clause-others
+returns-in-Ok-save-clause-others g c = λ m files. others_of_saved m _ _ _ (c.in-Ok-save.ensures.saved m files)
+
+pub returns-in-Ok-save-clause-prefix : goal.returns-in-Ok-save-clause-prefix
+returns-in-Ok-save-clause-prefix g c = λ xs zs e h.
+    part_of_text zs _ _ _ _ _ (c.as_bytes.ensures.value ∙ c.in-Ok.ensures) (inr (refl, refl)) (c.write_answer.ensures.prefix zs (λ f. cc) e h)
+
+pub returns-in-Err-Failed-clause-prefix : goal.returns-in-Err-Failed-clause-prefix
+returns-in-Err-Failed-clause-prefix g c = λ xs zs e h.
+    part_of_text zs no_counts StoreFault _ _ _ refl (inl refl) (c.write_answer-in-Err-Failed.ensures.prefix zs (λ f. cc) e h)
+
+pub returns-clause-prefix : goal.returns-clause-prefix
+returns-clause-prefix g c = λ xs zs e h. report_part zs _ _ _ _ (c.answer-in-Err-OutOfMemory.ensures.prefix zs e h) (λ f. cc)
