@@ -15,7 +15,6 @@ mod words;
 pub use command::command;
 use outside_ports::{ErrSink, FileStore, NoGate, StdSink, StdSource};
 pub use status::{Reason, Status};
-use std::alloc::Global;
 use std::process::ExitCode;
 use std::rt::Env;
 use std::{env, io};

@@ -1,7 +1,7 @@
-ghost use Rattle.std.specs.Prelude.{◌≡◌, ◌+◌, ◌-◌, ◌<◌, ◌≤◌, ◌++◌, ◌⊎◌, ◌≢◌, ℕ, List, Some, length, take, string_bytes, codes, decimal, IfOk, OnOk, OnErr, IsOk, IsErr};
+ghost use Rattle.std.specs.Prelude.{◌≡◌, ◌+◌, ◌-◌, ◌<◌, ◌≤◌, ◌++◌, ◌⊎◌, ◌≢◌, ℕ, List, Some, take, string_bytes, codes, decimal, IfOk, OnOk, OnErr};
 ghost use Rattle.outside_ports.specs.Ports.{Rose};
 ghost use Rattle.rewrite_cli.specs.Counts.{of_steps};
-ghost use Rattle.rewrite_cli.specs.Texts.{report_of, fault_text, why_text, reason_text, count_lines, line, usage_text, IsReportPart};
+ghost use Rattle.rewrite_cli.specs.Texts.{report_of, fault_text, why_text, reason_text, count_lines, line, IsReportPart};
 
 use crate::counts::Counts;
 use crate::status::{Reason, Status};

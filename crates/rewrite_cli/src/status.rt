@@ -1,7 +1,6 @@
 ghost use Rattle.std.specs.Prelude.{◌≡◌};
 ghost use Rattle.rewrite_cli.specs.Status.{exit_number_of};
 
-use elf_image::ElfErr;
 use rv64_decode::Fault;
 
 /// Why a command is refused.

@@ -1,5 +1,5 @@
 -- The first place at which two lists differ.
-use Rattle.std.proofs.Common.{◌≡◌, ◌≢◌, ◌==◌, ℕ, zero, suc, ◌+◌, ◌<◌, ◌≤◌, min, List, [], ◌∷◌, length, get_or, Bool, true, false, Option, Some, None, Result, Ok, Err, refl, ap, sym, ◌∙◌, arith}
+use Rattle.std.proofs.Common.{◌≡◌, ◌≢◌, ◌==◌, ℕ, zero, suc, ◌<◌, min, List, [], ◌∷◌, length, get_or, Bool, true, false, Option, Some, None, Result, Ok, Err, refl, ap, sym, ◌∙◌, arith}
 use Rattle.std.proofs.lemmas.Bool.Decides.{nat_tests}
 use Rattle.elf_image.specs.declared.image.Elf.{Elf}
 use Rattle.elf_image.specs.declared.reading.ElfErr.{ElfErr}
@@ -10,7 +10,7 @@ use Rattle.image_writer.specs.declared.splitting.Split.{Split}
 use Rattle.image_writer.specs.declared.splitting.Split.TheVariants.{Parts}
 use Rattle.image_writer.specs.Split.{split_of}
 use Rattle.rewriter.specs.Rewriting.{rewritten_of}
-use Rattle.rewriter.specs.Admission.{first_difference, one_more, Admission, Admitted, unless_different, parts_by, split_by, admission_of}
+use Rattle.rewriter.specs.Admission.{first_difference, one_more, Admitted, unless_different, parts_by, split_by, admission_of}
 
 -- the items before a place are the same
 abbrev pub SameBefore : ℕ → List ℕ → List ℕ → Type 0

@@ -1,4 +1,4 @@
-ghost use Rattle.std.specs.Prelude.{◌≡◌, ◌<◌, ◌≤◌, ℕ, List, length, take, drop, IfOk, IfErr};
+ghost use Rattle.std.specs.Prelude.{◌≡◌, ◌<◌, ℕ, List, length, IfOk, IfErr};
 ghost use Rattle.rewriter.specs.Rewriting.{rewritten_of};
 ghost use Rattle.elf_image.specs.Layout.{IsLoadable};
 ghost use Rattle.elf_image.specs.Reading.{reading_of};

@@ -1,4 +1,4 @@
-ghost use Rattle.std.specs.Prelude.{◌≡◌, ◌≢◌, IfOk, IfErr};
+ghost use Rattle.std.specs.Prelude.{◌≡◌, IfOk, IfErr};
 ghost use Rattle.elf_image.specs.Header.{HasHeaders};
 ghost use Rattle.elf_image.specs.Layout.{IsLoadable};
 ghost use Rattle.elf_image.specs.Reading.{reading_of};

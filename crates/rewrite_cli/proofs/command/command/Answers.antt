@@ -1,11 +1,9 @@
-use Rattle.std.proofs.Common.{◌≡◌, ◌++◌, ℕ, List, None, Some, Option, refl, ap, sym, ◌∙◌, map, string_bytes}
-use Rattle.rewrite_cli.specs.Words.{command_of}
+use Rattle.std.proofs.Common.{◌++◌, Some, refl, ap, sym, ◌∙◌, map, string_bytes}
 use Rattle.rewrite_cli.specs.Reading.{command_shown}
 use Rattle.rewrite_cli.specs.Effect.{Effect, only}
 use Rattle.rewrite_cli.specs.Counts.{no_counts}
 use Rattle.rewrite_cli.specs.declared.status.Status.TheVariants.{Usage}
 use Rattle.rewrite_cli.specs.Texts.{report_of}
-use Rattle.rewrite_cli.specs.declared.words.Command.{Command}
 use Rattle.rewrite_cli.proofs.Effects.{effect_run, effect_none, nothing_written, report_part}
 use Rattle.rewrite_cli.proofs.command.command.Goals as goal
 

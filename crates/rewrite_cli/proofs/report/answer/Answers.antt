@@ -1,6 +1,5 @@
-use Rattle.std.proofs.Common.{◌≡◌, refl, inl, inr}
-use Rattle.rewrite_cli.specs.Texts.{IsReportPart}
-use Rattle.rewrite_cli.specs.declared.status.Status.TheVariants.{OutOfMemory, WriteFault}
+use Rattle.std.proofs.Common.{refl, inr}
+use Rattle.rewrite_cli.specs.declared.status.Status.TheVariants.{OutOfMemory}
 use Rattle.rewrite_cli.proofs.report.answer.Goals as goal
 
 pub returns-in-Err-clause-prefix : goal.returns-in-Err-clause-prefix

@@ -1,4 +1,4 @@
-use Rattle.std.proofs.Common.{◌≡◌, refl, inl, inr, ◌∙◌}
+use Rattle.std.proofs.Common.{refl, inl, inr, ◌∙◌}
 use Rattle.rewrite_cli.specs.Counts.{no_counts}
 use Rattle.rewrite_cli.specs.declared.status.Status.TheVariants.{StoreFault}
 use Rattle.rewrite_cli.proofs.Effects.{report_part, part_of_text, others_of_saved}

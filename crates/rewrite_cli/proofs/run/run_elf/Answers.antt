@@ -1,4 +1,4 @@
-use Rattle.std.proofs.Common.{◌≡◌, ◌++◌, ℕ, List, [], Some, true, false, Bool, refl, ap, sym, ◌∙◌}
+use Rattle.std.proofs.Common.{ℕ, List, Some, ap, sym, ◌∙◌}
 use Rattle.std.specs.Prelude.{is_some, IsNone}
 use Rattle.std.proofs.lemmas.List.{append-nil}
 use Rattle.serial_run.specs.Serial.{start_of}

@@ -1,4 +1,4 @@
-use Rattle.std.proofs.Common.{◌≡◌, ℕ, ◌<◌, length, sym, arith}
+use Rattle.std.proofs.Common.{length, sym, arith}
 use Rattle.rewriter.proofs.Differences.{first_at, first_none, first_end, SameBefore}
 use Rattle.rewriter.proofs.admission.difference.Goals as goal
 
