@@ -1,18 +1,14 @@
 #!/bin/bash
 # Runs the built program on real files and streams: what the adapters do with a missing file, a folder,
-# a closed or full output and a closed input. Builds the program where it is not built yet. Prints a
-# line for each case, and ends with status 1 where one is not as it should be.
+# a closed or full output and a closed input, and with files that are saved. Prints a line for each case,
+# and ends with status 1 where one is not as it should be.
 set -u
 
 root=$(cd "$(dirname "${BASH_SOURCE[0]}")/.." && pwd)
-crate=$root/crates/rewrite_cli
-program=$crate/out/rewrite_cli
-if [ ! -x "$program" ]; then
-    (cd "$crate" && rt run -- run data/hello 1) >/dev/null 2>&1 </dev/null
-fi
+program=$("$root/examples/build.sh") || exit 1
 folder=$(mktemp -d)
 trap 'rm -rf "$folder"' EXIT
-cp "$crate/data/hello" "$folder/hello"
+cp "$root/crates/rewrite_cli/data/hello" "$folder/hello"
 
 # An executable that reads 64 bytes, writes what it got and exits with code 0.
 python3 - "$folder/echo" <<'PYTHON'
@@ -84,6 +80,17 @@ run bash -c "'$program' run echo 1 >out 2>report <&-"
 case_is 'a closed input' 126 '' read-fault
 run bash -c "'$program' run echo 1 >out 2>report <."
 case_is 'a folder as the input' 126 '' read-fault
+
+run bash -c "'$program' rewrite hello new >out 2>report </dev/null"
+case_is 'a file that is rewritten' 0 '' 'rewritten entries 0 words 0'
+run bash -c "'$program' run new 1 >out 2>report </dev/null"
+case_is 'a rewritten file' 0 hello "$counts"
+run bash -c "'$program' rewrite new newer >out 2>report </dev/null; status=\$?; [ ! -e newer ] && exit \$status"
+case_is 'a refused file: nothing is saved' 124 '' 'refused unbuilt'
+run bash -c "'$program' rewrite hello missing/new >out 2>report </dev/null"
+case_is 'a folder to save to that is missing' 125 '' store-fault
+run bash -c "printf x >>new; '$program' run new 1 >out 2>report </dev/null"
+case_is 'a rewritten file with one byte more' 124 '' 'refused altered 328'
 
 echo "adapters: $good passed, $bad failed"
 [ "$bad" -eq 0 ]

@@ -4,14 +4,13 @@
 # down and branches, and `mix`, with a multiplication, a second load and a second branch in the loop.
 # Runs each some times with the built program, and prints, from the report's line `steps` and the
 # least user time, the rate. Usage: bench/serial.sh [RUNS], 5 runs by default.
-# Wants python3, and the program at crates/rewrite_cli/out/rewrite_cli (examples/hello.sh builds it).
+# Wants python3; examples/build.sh builds the program where it is not built yet.
 set -euo pipefail
 
 root=$(cd "$(dirname "${BASH_SOURCE[0]}")/.." && pwd)
-program=$root/crates/rewrite_cli/out/rewrite_cli
 runs=${1:-5}
 
-[ -x "$program" ] || { echo "serial.sh: no $program; examples/hello.sh builds it" >&2; exit 1; }
+program=$("$root/examples/build.sh")
 folder=$(mktemp -d)
 trap 'rm -rf "$folder"' EXIT
 
