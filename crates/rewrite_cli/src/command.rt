@@ -50,7 +50,8 @@ fn run_command<S: Store, I: Source, O: Sink, P: Sink>(
 }
 
 /// Does what the words say, writes the guest's output to `out` and the report to `report`, saves what
-/// it makes in `store`, and answers how it went. `rt` is lent to running harts, and `gate` is passed by each of them.
+/// it makes in `store`, and answers how it went. `rt` is lent to running harts, and `gate` is passed by
+/// each of them.
 pub fn command<R: Threads + Sync, S: Store, I: Source, O: Sink, P: Sink, G: Gate>(
     _rt: &R,
     alloc: Global,

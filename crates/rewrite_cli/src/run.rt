@@ -101,9 +101,9 @@ fn load_image<S: Store>(alloc: Global, store: &mut S, file: &str) -> Result<Imag
     }
 }
 
-/// Runs the image or the executable of this name for at most `fuel` instructions. What it does, where the store,
-/// the input and the output tell their content, is said of the bytes that the store has under the
-/// name. A refusal and a fault of the store come before anything is read or written.
+/// Runs the image or the executable of this name for at most `fuel` instructions. What it does, where
+/// the store, the input and the output tell their content, is said of the bytes that the store has
+/// under the name. A refusal and a fault of the store come before anything is read or written.
 pub fn run_file<S: Store, I: Source, O: Sink>(
     alloc: Global,
     file: &str,
