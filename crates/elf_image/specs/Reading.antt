@@ -1,17 +1,12 @@
 -- Which files are read as an executable, and as which.
-use Rattle.std.specs.Prelude.{ℕ, ◌≡◌, suc, ◌+◌, ◌%◌, ◌==◌, Bool, ◌&&◌, nat_le, nat_lt, if◌then◌else◌, List, [], ◌∷◌, length, take, drop, Option, Some, None, Result, Ok, Err}
-use Rattle.elf_image.specs.declared.header.FileHeader.{FileHeader}
+use Rattle.std.specs.Prelude.{ℕ, ◌≡◌, suc, nat_lt, if◌then◌else◌, List, [], ◌∷◌, length, take, drop, Option, Some, None, Result, Ok, Err}
 use Rattle.elf_image.specs.declared.header.ProgramHeader.{ProgramHeader}
 use Rattle.elf_image.specs.declared.image.Segment.{Segment}
 use Rattle.elf_image.specs.declared.image.Elf.{Elf}
-use Rattle.elf_image.specs.declared.reading.ElfErr.{ElfErr}
-use Rattle.elf_image.specs.declared.reading.ElfErr.TheVariants.{NotElf, Unbuilt, OutOfMemory}
-use Rattle.elf_image.specs.Header.{is_elf, file_header, program_header, program_headers}
-use Rattle.elf_image.specs.Layout.{in_code, load_end}
-
--- a header of type PT_LOAD whose memory size is above 0 makes an area
-abbrev pub makes_area : ProgramHeader → Bool
-makes_area h = h.kind == 1 && nat_lt 0 h.memsz
+use Rattle.elf_image.specs.declared.rules.ElfErr.{ElfErr}
+use Rattle.elf_image.specs.declared.rules.ElfErr.TheVariants.{OutOfMemory}
+use Rattle.elf_image.specs.Header.{file_header, program_headers}
+use Rattle.elf_image.specs.Rules.{first_of, makes_area, file_refusal, program_refusal}
 
 -- the segment of the header at this place among all headers
 abbrev pub segment_of : List ℕ → ℕ → ProgramHeader → Segment
@@ -36,44 +31,13 @@ segments_of bytes = segments_from bytes 0 (program_headers bytes)
 abbrev pub elf_of : List ℕ → Elf
 elf_of bytes = record { entry = (file_header bytes).entry; segments = segments_of bytes }
 
--- a static executable for 64-bit little-endian RISC-V with one program header
-unfoldable pub is_early_file_header : FileHeader → Bool
-is_early_file_header h =
-    h.class == 2 && h.data_encoding == 1 && h.ident_version == 1 && h.version == 1 && h.kind == 2
-    && h.machine == 243 && h.flags == 0 && h.phentsize == 56 && h.phnum == 1
-
--- one load segment, readable and executable, all of whose bytes stand in the file
-unfoldable pub is_early_program_header : ℕ → ProgramHeader → Bool
-is_early_program_header size h =
-    h.kind == 1 && h.flags == 5 && h.filesz == h.memsz && nat_lt 0 h.filesz && nat_le (h.offset + h.filesz) size
-    && nat_le (h.vaddr + h.memsz) load_end
-
--- the headers of a file that is read so far
-unfoldable pub has_early_headers : List ℕ → Bool
-has_early_headers bytes =
-    nat_le 64 (length bytes) && nat_le (length bytes) 67108864 && is_early_file_header (file_header bytes)
-    && nat_le ((file_header bytes).phoff + 56) (length bytes)
-    && is_early_program_header (length bytes) (program_header bytes (file_header bytes).phoff)
-
--- the first instruction is aligned and lies in an executable segment
-abbrev pub has_entry : Elf → Bool
-has_entry elf = elf.entry % 4 == 0 && in_code elf.segments elf.entry
-
--- the form of file that is read so far
-unfoldable pub is_early : List ℕ → Bool
-is_early bytes = has_early_headers bytes && has_entry (elf_of bytes)
-
--- the refusal of a rule that fails
-abbrev pub unless : Bool → ElfErr → Option ElfErr
-unless b e = if b then None else Some e
-
-abbrev pub or_then : Option ElfErr → Option ElfErr → Option ElfErr
-or_then None next = next
-or_then (Some e) next = Some e
-
 -- the first rule that fails
 unfoldable pub refusal_of : List ℕ → Option ElfErr
-refusal_of bytes = or_then (unless (is_elf bytes) NotElf) (unless (is_early bytes) Unbuilt)
+refusal_of bytes =
+    first_of
+    (file_refusal bytes
+    ∷ program_refusal (length bytes) (file_header bytes).entry (program_headers bytes)
+    ∷ [])
 
 abbrev pub reading_by : Option ElfErr → Elf → Result Elf ElfErr
 reading_by None elf = Ok elf

@@ -3,7 +3,12 @@
 
 pub mod header;
 pub mod image;
+pub mod placing;
 pub mod reading;
+pub mod rules;
+#[cfg(test)]
+mod tests;
 
 pub use image::{Bytes, Elf, Segment, Segments};
-pub use reading::{ElfErr, read_elf};
+pub use reading::read_elf;
+pub use rules::ElfErr;

@@ -1,4 +1,4 @@
-ghost use Rattle.std.specs.Prelude.{◌≡◌, ◌+◌, ◌<◌, ◌≤◌, ◌^◌, length, true, IsSome, IfOk, IfErr, IfSome, IsNone};
+ghost use Rattle.std.specs.Prelude.{◌≡◌, ◌+◌, ◌<◌, ◌^◌, length, true, IsSome, IfOk, IfErr, IfSome, IsNone};
 ghost use Rattle.rv64_decode.specs.Area.{bytes_of, holds, area_at, load_of, fetch_of, store_of, after_store, with_number};
 ghost use Rattle.guest_memory.specs.Layout.{LieFrom, nth_area, IsPlace, IsRefused};
 ghost use Rattle.guest_memory.specs.Words.{word_of};

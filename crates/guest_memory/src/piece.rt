@@ -1,4 +1,4 @@
-ghost use Rattle.std.specs.Prelude.{◌≡◌, ◌+◌, ◌-◌, ◌*◌, ◌/◌, ◌%◌, ◌<◌, ◌≤◌, ◌^◌, ℕ, length, drop, IsTrue, ◌↔◌};
+ghost use Rattle.std.specs.Prelude.{◌≡◌, ◌+◌, ◌-◌, ◌/◌, ◌<◌, ◌≤◌, ◌^◌, length, drop};
 ghost use Rattle.rv64_decode.specs.Area.{bytes_of, holds as holds_of};
 ghost use Rattle.byteorder.specs.Endian.{little_number};
 ghost use Rattle.guest_memory.specs.Layout.{end_of, with_bytes, spliced};

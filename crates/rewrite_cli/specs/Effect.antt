@@ -2,8 +2,8 @@
 use Rattle.std.specs.Prelude.{ℕ, ◌≡◌, ◌⊎◌, ◌++◌, take, Bool, true, false, nat_lt, if◌then◌else◌, List, [], Option, Some, None, Result, Ok, Err, length}
 use Rattle.outside_ports.specs.Ports.{Files, Lacks, SameButIn, SavedIn}
 use Rattle.outside_ports.specs.Fakes.{File}
-use Rattle.elf_image.specs.declared.reading.ElfErr.{ElfErr}
-use Rattle.elf_image.specs.declared.reading.ElfErr.TheVariants.{NotElf as NotAnElf, Unbuilt as NotBuilt, OutOfMemory as NoMemory}
+use Rattle.elf_image.specs.declared.rules.ElfErr.{ElfErr}
+use Rattle.elf_image.specs.declared.rules.ElfErr.TheVariants.{NotElf as NotAnElf, Unbuilt as NotBuilt, OutOfMemory as NoMemory}
 use Rattle.serial_run.specs.Serial.{State, start_of, ended, serial, executed_of}
 use Rattle.serial_run.specs.declared.machine.End.{End}
 use Rattle.serial_run.specs.declared.machine.End.TheVariants.{Exited as DidExit, Faulted as DidFault, Spent as DidSpend, ReadFault as SourceFault, WriteFault as SinkFault}

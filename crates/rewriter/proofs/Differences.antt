@@ -2,7 +2,7 @@
 use Rattle.std.proofs.Common.{◌≡◌, ◌≢◌, ◌==◌, ℕ, zero, suc, ◌<◌, min, List, [], ◌∷◌, length, get_or, Bool, true, false, Option, Some, None, Result, Ok, Err, refl, ap, sym, ◌∙◌, arith}
 use Rattle.std.proofs.lemmas.Bool.Decides.{nat_tests}
 use Rattle.elf_image.specs.declared.image.Elf.{Elf}
-use Rattle.elf_image.specs.declared.reading.ElfErr.{ElfErr}
+use Rattle.elf_image.specs.declared.rules.ElfErr.{ElfErr}
 use Rattle.elf_image.specs.Reading.{reading_of}
 use Rattle.image_writer.specs.declared.image.Entry.{Entry}
 use Rattle.image_writer.specs.declared.image.Image.{Image}

@@ -1,8 +1,8 @@
 -- Which files are admitted as images, and as which.
 use Rattle.std.specs.Prelude.{ℕ, suc, ◌≡◌, ◌≢◌, ◌==◌, if◌then◌else◌, List, [], ◌∷◌, Option, Some, None, Result, Ok, Err}
 use Rattle.elf_image.specs.declared.image.Elf.{Elf}
-use Rattle.elf_image.specs.declared.reading.ElfErr.{ElfErr}
-use Rattle.elf_image.specs.declared.reading.ElfErr.TheVariants.{OutOfMemory as NoMemory}
+use Rattle.elf_image.specs.declared.rules.ElfErr.{ElfErr}
+use Rattle.elf_image.specs.declared.rules.ElfErr.TheVariants.{OutOfMemory as NoMemory}
 use Rattle.elf_image.specs.Reading.{reading_of}
 use Rattle.image_writer.specs.declared.image.Entry.{Entry}
 use Rattle.image_writer.specs.declared.image.Image.{Image}

@@ -1,8 +1,8 @@
 -- The image of an executable, as a function of its bytes.
 use Rattle.std.specs.Prelude.{ℕ, ◌≡◌, ◌≢◌, List, [], length, Result, Ok, Err}
 use Rattle.elf_image.specs.declared.image.Elf.{Elf}
-use Rattle.elf_image.specs.declared.reading.ElfErr.{ElfErr}
-use Rattle.elf_image.specs.declared.reading.ElfErr.TheVariants.{OutOfMemory as NoMemory}
+use Rattle.elf_image.specs.declared.rules.ElfErr.{ElfErr}
+use Rattle.elf_image.specs.declared.rules.ElfErr.TheVariants.{OutOfMemory as NoMemory}
 use Rattle.elf_image.specs.Reading.{reading_of}
 use Rattle.image_writer.specs.declared.image.Entry.{Entry}
 use Rattle.image_writer.specs.Image.{image_bytes}

@@ -1,4 +1,4 @@
-ghost use Rattle.std.specs.Prelude.{◌≡◌, ◌+◌, ◌-◌, ◌*◌, ◌/◌, ◌%◌, ◌<◌, ◌≤◌, ◌^◌, ℕ, List, IfOk};
+ghost use Rattle.std.specs.Prelude.{◌≡◌, ◌-◌, ◌/◌, ◌<◌, ◌^◌, List, IfOk};
 ghost use Rattle.rv64_decode.specs.Area.{Area, bytes_of, load_of, store_of, after_store};
 ghost use Rattle.rv64_decode.specs.Ask.{Ask, Loads, Stores, Nothing};
 ghost use Rattle.rv64_decode.specs.declared.memory.Width.{Width};

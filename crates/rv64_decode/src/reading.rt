@@ -1,5 +1,5 @@
-ghost use Rattle.std.specs.Prelude.{◌≡◌, ◌↔◌, ◌+◌, ◌-◌, ◌*◌, ◌/◌, ◌%◌, ◌<◌, ◌≤◌, ◌^◌, ℕ, Some, IfSome};
-ghost use Rattle.rv64_decode.specs.Fields.{signed_by, opcode, rd_of, funct3, rs1_of, rs2_of, funct7, imm_i, imm_s, imm_b, imm_u, imm_j};
+ghost use Rattle.std.specs.Prelude.{◌≡◌, ◌↔◌, ◌+◌, ◌-◌, ◌*◌, ◌/◌, ◌%◌, ◌<◌, ◌≤◌, ◌^◌, Some, IfSome};
+ghost use Rattle.rv64_decode.specs.Fields.{signed_by, rd_of, rs1_of, rs2_of, imm_i, imm_s, imm_b, imm_u, imm_j};
 ghost use Rattle.rv64_decode.specs.Operations.{alu_by, alu_w_by, imm_by, imm_w_by, load_by, store_by, branch_by};
 ghost use Rattle.rv64_decode.specs.Table.{Means, decoded, imm_for};
 ghost use Rattle.rv64_decode.specs.Form.{InForm};

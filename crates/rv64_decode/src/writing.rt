@@ -1,7 +1,7 @@
 ghost use Rattle.std.specs.Prelude.{◌≡◌, ◌↔◌, ◌+◌, ◌*◌, ◌/◌, ◌%◌, ◌<◌, ◌≤◌, ◌^◌, ℕ, Some, ◌≤ℤ◌, pos, negsuc, IsTrue, IsSome, IfSome};
 ghost use Rattle.std.specs.Int.{w32, cast_unsigned};
-ghost use Rattle.rv64_decode.specs.Fields.{opcode, rd_of, funct3, rs1_of, rs2_of, funct7, amount64, imm_i, imm_s, imm_b, imm_u, imm_j};
-ghost use Rattle.rv64_decode.specs.Table.{Means, decoded, IsAlu, IsImm, IsLoad, IsStore, IsBranch, IsUpper, IsR, IsOp, IsShift};
+ghost use Rattle.rv64_decode.specs.Fields.{opcode, rd_of, rs1_of, rs2_of, amount64, imm_i, imm_s, imm_b, imm_u, imm_j};
+ghost use Rattle.rv64_decode.specs.Table.{Means, decoded, IsAlu, IsLoad, IsStore, IsBranch, IsR, IsOp, IsShift};
 ghost use Rattle.rv64_decode.specs.Form.{IsSigned, IsAmount, InForm};
 
 use crate::instr::{AluOp, BranchOp, ImmOp, Instr, LoadOp, StoreOp, UpperOp};

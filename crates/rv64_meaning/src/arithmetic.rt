@@ -1,4 +1,4 @@
-ghost use Rattle.std.specs.Prelude.{◌≡◌, ◌+◌, ◌-◌, ◌*◌, ◌/◌, ◌%◌, ◌<◌, ◌≤◌, ◌^◌, ℕ, Bool};
+ghost use Rattle.std.specs.Prelude.{◌≡◌, ◌-◌, ◌*◌, ◌/◌, ◌%◌, ◌<◌, ◌^◌};
 ghost use Rattle.rv64_decode.specs.Area.{bytes_of};
 ghost use Rattle.rv64_decode.specs.Row.{shifted, extended32 as extended32_of, divided32 as divided32_of, remainder32 as remainder32_of, high_product as high_product_of, low32, register_op as register_op_of, from_test as from_test_of, alu as alu_of, alu_imm as alu_imm_of, upper as upper_of, load_width, extended as extended_of, taken as taken_of};
 

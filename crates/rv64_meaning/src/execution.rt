@@ -1,6 +1,5 @@
 ghost use Rattle.std.specs.Prelude.{◌≡◌, ℕ, List};
-ghost use Rattle.rv64_decode.specs.Area.{Area, load_of, store_of, after_store};
-ghost use Rattle.rv64_decode.specs.Ask.{Loads, Stores, answer, after};
+ghost use Rattle.rv64_decode.specs.Ask.{after};
 ghost use Rattle.rv64_decode.specs.Registers.{with_register};
 ghost use Rattle.rv64_decode.specs.Row.{asks, outcome, jump as jump_of, next_pc, IsStop};
 

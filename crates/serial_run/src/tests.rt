@@ -1,4 +1,4 @@
-ghost use Rattle.std.specs.Prelude.{◌≡◌, ◌≤◌, length, IfOk};
+ghost use Rattle.std.specs.Prelude.{◌≤◌, length, IfOk};
 ghost use Rattle.elf_image.specs.Layout.{IsLoadable};
 
 use crate::{End, Machine, Ran, run_counted, run_serial, start, step_serial};
