@@ -60,7 +60,8 @@ fn other_files_are_not_admitted(rt: HostRuntime) -> Result<(), Fail> {
     assert!(rt; whole.len() == 288);
     let (_, cut) = whole.split_last().ok_or("an image has bytes")?;
     assert!(rt; admit(alloc, cut).err() == Some(AdmitErr::BadMark));
-    assert!(rt; rewrite(alloc, whole).err() == Some(RewriteErr::Elf(ElfErr::Unbuilt)));
+    let marked = Some(RewriteErr::Elf(ElfErr::Marked { index: 1 }));
+    assert!(rt; rewrite(alloc, whole).err() == marked);
     assert!(rt;
         admit(alloc, b"").err() == Some(AdmitErr::Original(RewriteErr::Elf(ElfErr::NotElf)))
     );
