@@ -1,19 +1,20 @@
 -- What a command does, from its counts.
-use Rattle.std.proofs.Common.{◌≡◌, ◌≢◌, ℕ, List, length, Option, Some, None, Bool, true, false, refl, arith, ap, sym, ◌∙◌, ◌++◌, ◌⊎◌, inl, inr}
+use Rattle.std.proofs.Common.{◌≡◌, ◌≢◌, ℕ, ◌≤◌, List, length, Option, Some, None, Bool, true, false, refl, arith, ap, sym, ◌∙◌, ◌++◌, ◌⊎◌, inl, inr}
 use Rattle.std.proofs.Math.Seq.{take-length, take-append_seam}
 use Rattle.std.proofs.lemmas.List.{append-nil}
 use Rattle.std.proofs.lemmas.Bool.Decides.{nat_tests}
 use Rattle.std.specs.Prelude.{nat_lt, take}
-use Rattle.outside_ports.specs.Ports.{Files, PassesLimit, SavedIn, SameButIn}
+use Rattle.outside_ports.specs.Ports.{Files, PassesLimit, Rose, SavedIn, SameButIn}
+use Rattle.outside_ports.specs.Fakes.{File}
 use Rattle.serial_run.specs.Ports.{IsPrefixOf}
-use Rattle.rewrite_cli.specs.Effect.{Effect, effect_of, of_command, of_content, run_of, rewrite_of, only, load_limit, IsPartOfReport}
-use Rattle.rewrite_cli.specs.Status.{is_from_outside}
+use Rattle.rewrite_cli.specs.Effect.{Effect, effect_of, of_command, of_content, run_of, rewrite_of, only, load_limit, AreSaved, IsPartOfReport}
+use Rattle.rewrite_cli.specs.Status.{is_from_outside, is_ending}
 use Rattle.rewrite_cli.specs.Counts.{no_counts}
 use Rattle.rewrite_cli.specs.Texts.{report_of, IsReportPart}
 use Rattle.rewrite_cli.specs.declared.counts.Counts.{Counts}
 use Rattle.rewrite_cli.specs.declared.status.Reason.TheVariants.{LoadTooLong}
 use Rattle.rewrite_cli.specs.declared.status.Status.{Status}
-use Rattle.rewrite_cli.specs.declared.status.Status.TheVariants.{Refused, Usage, OutOfMemory, WriteFault}
+use Rattle.rewrite_cli.specs.declared.status.Status.TheVariants.{Exited, Faulted, Refused, Usage, OutOfMemory, WriteFault}
 use Rattle.rewrite_cli.specs.Words.{Command, Run, Rewrite, command_of}
 
 pub content_too_long : (content : Option (List ℕ)) (act : List ℕ → Effect) (input : List ℕ) → PassesLimit content load_limit → of_content act input content ≡ only (Refused (LoadTooLong load_limit)) input
@@ -43,6 +44,17 @@ pub kept_answer : (answer status : Status) → (answer ≡ status) ⊎ ((answer 
 kept_answer answer status (inl e) f = e
 kept_answer answer status (inr (inl e)) f = let g = rw e at f in cc
 kept_answer answer status (inr (inr e)) f = let g = rw e at f in cc
+
+-- an answer is the one that was to be given, or it is from outside
+pub kept_or_outside : (answer status : Status) → (answer ≡ status) ⊎ (is_from_outside answer ≡ true) → is_from_outside answer ≡ false → answer ≡ status
+kept_or_outside answer status (inl e) f = e
+kept_or_outside answer status (inr t) f = cc
+
+-- an ending is not from outside
+pub ending_inside : (status : Status) → is_ending status ≡ true → is_from_outside status ≡ false
+ending_inside (Exited code) e = refl
+ending_inside (Faulted kind pc addr) e = refl
+ending_inside _ e = cc
 
 pub no_write_fault : (answer : Status) → is_from_outside answer ≡ false → answer ≢ WriteFault
 no_write_fault answer f e = let g = rw e at f in cc
@@ -80,10 +92,20 @@ pub others_of_saved : (m : Files) (files : Option Files) (name bytes : List ℕ)
 others_of_saved m None name bytes h = absurd h
 others_of_saved m (Some n) name bytes h = h.1
 
+pub saved_file : (m : Files) (files : Option Files) (name bytes : List ℕ) (saved : Option File) → saved ≡ Some (name, bytes) → SavedIn m files name bytes → AreSaved m files saved
+saved_file m files name bytes saved e h = rw e h
+
+-- a save that follows what keeps the store's files
+pub saved_or_same_of : (m : Files) (files : Option Files) (name bytes : List ℕ) (saved : Option File) (before between now : ℕ) → saved ≡ Some (name, bytes) → before ≤ between
+    → Rose between now ⊎ ((files ≡ Some m) ⊎ SavedIn m files name bytes) → Rose before now ⊎ ((files ≡ Some m) ⊎ AreSaved m files saved)
+saved_or_same_of m files name bytes saved before between now e h (inl rose) = inl (omega arith)
+saved_or_same_of m files name bytes saved before between now e h (inr (inl same)) = inr (inl same)
+saved_or_same_of m files name bytes saved before between now e h (inr (inr put)) = inr (inr (saved_file m files name bytes saved e put))
+
 -- ---- commands
 
-pub effect_run : (words : List (List ℕ)) (m : Files) (xs : List ℕ) (file : List ℕ) (fuel : ℕ) → command_of words ≡ Some (Run file fuel) → effect_of words m xs ≡ of_content (run_of fuel xs) xs (m file)
-effect_run words m xs file fuel e = ap (λ (command : Option Command). of_command m xs command) e
+pub effect_run : (words : List (List ℕ)) (m : Files) (xs : List ℕ) (file : List ℕ) (fuel : ℕ) (dump : Option (List ℕ)) → command_of words ≡ Some (Run file fuel dump) → effect_of words m xs ≡ of_content (run_of fuel dump xs) xs (m file)
+effect_run words m xs file fuel dump e = ap (λ (command : Option Command). of_command m xs command) e
 
 pub effect_rewrite : (words : List (List ℕ)) (m : Files) (xs : List ℕ) (file new : List ℕ) → command_of words ≡ Some (Rewrite file new) → effect_of words m xs ≡ of_content (rewrite_of new xs) xs (m file)
 effect_rewrite words m xs file new e = ap (λ (command : Option Command). of_command m xs command) e

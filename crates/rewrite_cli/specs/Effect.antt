@@ -1,9 +1,11 @@
 -- What a command does where the outside does not fail and memory is found.
-use Rattle.std.specs.Prelude.{ℕ, ◌≡◌, ◌⊎◌, ◌++◌, take, Bool, true, false, nat_lt, if◌then◌else◌, List, [], Option, Some, None, Result, Ok, Err, length}
+use Rattle.std.specs.Prelude.{ℕ, ◌≡◌, ◌⊎◌, ◌++◌, take, Bool, true, false, not, nat_lt, is_some, if◌then◌else◌, List, [], Option, Some, None, Result, Ok, Err, length}
 use Rattle.outside_ports.specs.Ports.{Files, Lacks, SameButIn, SavedIn}
 use Rattle.outside_ports.specs.Fakes.{File}
+use Rattle.rv64_decode.specs.Area.{Area}
 use Rattle.elf_image.specs.declared.rules.ElfErr.{ElfErr}
 use Rattle.elf_image.specs.declared.rules.ElfErr.TheVariants.{NotElf as NotAnElf, Unbuilt as NotBuilt, OutOfMemory as NoMemory}
+use Rattle.guest_memory.specs.Spans.{all_bytes}
 use Rattle.serial_run.specs.Serial.{State, start_of, ended, serial, executed_of}
 use Rattle.serial_run.specs.declared.machine.End.{End}
 use Rattle.serial_run.specs.declared.machine.End.TheVariants.{Exited as DidExit, Faulted as DidFault, Spent as DidSpend, ReadFault as SourceFault, WriteFault as SinkFault}
@@ -13,7 +15,7 @@ use Rattle.rewriter.specs.declared.rewriting.RewriteErr.TheVariants.{Elf as NotR
 use Rattle.rewriter.specs.Rewriting.{rewriting_of}
 use Rattle.rewriter.specs.Admission.{Admission, Admitted, Bad, Refused as IsRefused, Differs, admission_of}
 use Rattle.rewrite_cli.specs.Words.{Command, Run, Rewrite, command_of}
-use Rattle.rewrite_cli.specs.Status.{is_from_outside}
+use Rattle.rewrite_cli.specs.Status.{is_from_outside, is_early, is_ending}
 use Rattle.rewrite_cli.specs.Counts.{of_steps, no_counts}
 use Rattle.rewrite_cli.specs.Texts.{report_of}
 use Rattle.rewrite_cli.specs.declared.counts.Counts.{Counts}
@@ -69,21 +71,33 @@ abbrev pub status_of : Option End → Status
 status_of None = Spent
 status_of (Some end) = status_of_end end
 
--- a run from this state
-abbrev pub ran : ℕ → State → Effect
-ran fuel s =
-    let t = serial fuel s in
-    record { status = status_of (ended t); output = t.output; rest = t.rest; counts = of_steps (executed_of fuel s); saved = None }
+-- what is saved of the memory after a run: the bytes of all areas, in address order, where a name is
+-- given and the run has come to an ending
+abbrev pub dump_of : Option (List ℕ) → Status → List Area → Option File
+dump_of None status memory = None
+dump_of (Some name) status memory = if is_ending status then Some (name, all_bytes memory) else None
 
-abbrev pub of_admission : ℕ → List ℕ → Admission → Effect
-of_admission fuel input (Admitted image) = ran fuel (start_of image.elf input)
-of_admission fuel input Bad = only (Refused BadMark) input
-of_admission fuel input (IsRefused why) = only (reason_of why) input
-of_admission fuel input (Differs offset) = only (Refused (Altered offset)) input
+-- a run from this state
+abbrev pub ran : ℕ → Option (List ℕ) → State → Effect
+ran fuel dump s =
+    let t = serial fuel s in
+    record {
+      status = status_of (ended t);
+      output = t.output;
+      rest = t.rest;
+      counts = of_steps (executed_of fuel s);
+      saved = dump_of dump (status_of (ended t)) t.machine.memory;
+    }
+
+abbrev pub of_admission : ℕ → Option (List ℕ) → List ℕ → Admission → Effect
+of_admission fuel dump input (Admitted image) = ran fuel dump (start_of image.elf input)
+of_admission fuel dump input Bad = only (Refused BadMark) input
+of_admission fuel dump input (IsRefused why) = only (reason_of why) input
+of_admission fuel dump input (Differs offset) = only (Refused (Altered offset)) input
 
 -- a run of the file with these bytes
-abbrev pub run_of : ℕ → List ℕ → List ℕ → Effect
-run_of fuel input bytes = of_admission fuel input (admission_of bytes)
+abbrev pub run_of : ℕ → Option (List ℕ) → List ℕ → List ℕ → Effect
+run_of fuel dump input bytes = of_admission fuel dump input (admission_of bytes)
 
 -- ---- rewriting
 
@@ -103,7 +117,7 @@ rewrite_of new input bytes = of_rewriting new input (rewriting_of bytes)
 
 abbrev pub of_command : Files → List ℕ → Option Command → Effect
 of_command files input None = only Usage input
-of_command files input (Some (Run file fuel)) = of_content (run_of fuel input) input (files file)
+of_command files input (Some (Run file fuel dump)) = of_content (run_of fuel dump input) input (files file)
 of_command files input (Some (Rewrite file new)) = of_content (rewrite_of new input) input (files file)
 
 -- what the words do, given the store's files and the input
@@ -128,25 +142,43 @@ is_refusal OutOfMemory = true
 -- a file that the command loads is not in a store that tells its files
 abbrev pub LacksFile : Option Command → Option Files → Type 0
 LacksFile None files = ⊥
-LacksFile (Some (Run file fuel)) files = Lacks files file
+LacksFile (Some (Run file fuel dump)) files = Lacks files file
 LacksFile (Some (Rewrite file new)) files = Lacks files file
 
 -- a command that runs a guest
 abbrev pub is_run : Option Command → Bool
 is_run None = false
-is_run (Some (Run file fuel)) = true
+is_run (Some (Run file fuel dump)) = true
 is_run (Some (Rewrite file new)) = false
+
+-- the input tells these bytes, where the command reads any
+abbrev pub TellsInput : Option Command → Option (List ℕ) → List ℕ → Type 0
+TellsInput None rest input = Unit {0}
+TellsInput (Some (Run file fuel dump)) rest input = rest ≡ Some input
+TellsInput (Some (Rewrite file new)) rest input = Unit {0}
+
+-- a run that is to save its memory
+abbrev pub is_dumping : Option Command → Bool
+is_dumping None = false
+is_dumping (Some (Run file fuel dump)) = is_some dump
+is_dumping (Some (Rewrite file new)) = false
 
 -- a command that saves a file
 abbrev pub is_saving : Option Command → Bool
 is_saving None = false
-is_saving (Some (Run file fuel)) = false
+is_saving (Some (Run file fuel dump)) = is_some dump
 is_saving (Some (Rewrite file new)) = true
+
+-- an answer of the command that comes before any of the input is read or any output is written
+abbrev pub comes_early : Option Command → Status → Bool
+comes_early command StoreFault = not (is_dumping command)
+comes_early command status = is_early status
 
 -- all files stay but for the one that the command saves
 abbrev pub OthersStay : Files → Option Files → Option Command → Type 0
 OthersStay m files None = files ≡ Some m
-OthersStay m files (Some (Run file fuel)) = files ≡ Some m
+OthersStay m files (Some (Run file fuel None)) = files ≡ Some m
+OthersStay m files (Some (Run file fuel (Some name))) = SameButIn m files name
 OthersStay m files (Some (Rewrite file new)) = SameButIn m files new
 
 -- the files are those before, with the one that is saved

@@ -29,7 +29,34 @@ is_from_outside ReadFault = true
 is_from_outside WriteFault = true
 is_from_outside OutOfMemory = true
 
--- an answer that comes before any of the input is read or any output is written
+-- the guest's run has come to an ending
+abbrev pub is_ending : Status → Bool
+is_ending Done = false
+is_ending (Exited code) = true
+is_ending (Faulted kind pc addr) = true
+is_ending Spent = false
+is_ending Usage = false
+is_ending (Refused why) = false
+is_ending StoreFault = false
+is_ending ReadFault = false
+is_ending WriteFault = false
+is_ending OutOfMemory = false
+
+-- an answer after which all files are as they were
+abbrev pub keeps_files : Status → Bool
+keeps_files Done = false
+keeps_files (Exited code) = false
+keeps_files (Faulted kind pc addr) = false
+keeps_files Spent = true
+keeps_files Usage = true
+keeps_files (Refused why) = true
+keeps_files StoreFault = false
+keeps_files ReadFault = true
+keeps_files WriteFault = false
+keeps_files OutOfMemory = true
+
+-- an answer that comes before any of the input is read or any output is written, where it is not that
+-- of a save that failed
 abbrev pub is_early : Status → Bool
 is_early Done = true
 is_early (Exited code) = false

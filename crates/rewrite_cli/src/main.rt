@@ -3,10 +3,12 @@
 
 mod command;
 mod counts;
+mod dumping;
 mod loading;
 mod report;
 mod rewriting;
 mod run;
+mod saving;
 mod status;
 #[cfg(test)]
 mod tests;

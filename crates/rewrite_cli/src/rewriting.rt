@@ -1,16 +1,17 @@
-ghost use Rattle.std.specs.Prelude.{◌≡◌, ◌≢◌, ◌<◌, ◌≤◌, ◌++◌, ◌⊎◌, ℕ, List, [], Ok, Some, true, false, IfOk, IfErr};
+ghost use Rattle.std.specs.Prelude.{◌≡◌, ◌≢◌, ◌<◌, ◌≤◌, ◌++◌, ◌⊎◌, ℕ, List, [], Ok, Some, true, false, IfOk, IfErr, IsErr};
 ghost use Rattle.outside_ports.specs.Ports.{Files, Rose, Lacks, SavedIn, SameButIn};
 ghost use Rattle.rewriter.specs.Rewriting.{rewriting_of};
-ghost use Rattle.rewrite_cli.specs.Status.{is_from_outside};
+ghost use Rattle.rewrite_cli.specs.Status.{is_from_outside, keeps_files};
 ghost use Rattle.rewrite_cli.specs.Texts.{report_of};
 ghost use Rattle.rewrite_cli.specs.declared.counts.Counts.{Counts as Shown};
 ghost use Rattle.rewrite_cli.specs.Effect.{of_content, rewrite_of, of_rewriting, counts_of, only, is_refusal, AreSaved, IsPartOfReport};
 
 use crate::counts::{Counts, NO_COUNTS};
 use crate::loading::{load, refusal};
-use crate::report::{answer, report_text, write_answer};
+use crate::report::answer;
+use crate::saving::save_and_answer;
 use crate::status::Status;
-use outside_ports::{SaveErr, Sink, Store};
+use outside_ports::{Sink, Store};
 use rewriter::{Rewritten, rewrite};
 use std::alloc::Global;
 
@@ -32,6 +33,7 @@ fn load_rewritten<S: Store>(alloc: Global, store: &mut S, file: &str) -> Result<
     ensures refused { IfErr result (λ e. is_from_outside e ≡ false → (m : Files) → S.files store.old ≡ Some m → (new xs : List ℕ) → of_content (rewrite_of new xs) xs (m file.now) ≡ only e xs) }
     ensures failed { result ≡ Err Status.StoreFault → Rose (S.faults store.old) (S.faults store.new) ⊎ Lacks (S.files store.old) file.now }
     ensures kind { IfErr result (λ e. is_refusal e ≡ true) }
+    ensures missing { Lacks (S.files store.old) file.now → IsErr result }
     ensures same { S.files store.new ≡ S.files store.old }
     ensures never_falls { S.faults store.old ≤ S.faults store.new }
 {
@@ -41,40 +43,14 @@ fn load_rewritten<S: Store>(alloc: Global, store: &mut S, file: &str) -> Result<
     }
 }
 
-const STORE_FAULT: &[u8] = b"store-fault\n";
-
-// Saves an image and answers. The report is there before the file is saved, so that want of memory
-// does not come after it.
-fn save_image<S: Store, P: Sink>(
-    alloc: Global,
-    made: &Rewritten,
-    new: &str,
-    store: &mut S,
-    report: &mut P,
-) -> Status
-    ensures kind { (result ≡ Status.Done) ⊎ (is_from_outside result ≡ true) }
-    ensures saved { (m : Files) → S.files store.old ≡ Some m → result ≡ Status.Done → SavedIn m (S.files store.new) new.now made.now.bytes }
-    ensures others { (m : Files) → S.files store.old ≡ Some m → SameButIn m (S.files store.new) new.now }
-    ensures out_of_memory { result ≡ Status.OutOfMemory → S.files store.new ≡ S.files store.old }
-    ensures reported { (zs : List ℕ) → result ≢ Status.WriteFault → P.written report.old ≡ Some zs → P.written report.new ≡ Some (zs ++ report_of (counts_of made.now) result) }
-    ensures prefix { (xs zs : List ℕ) → result ≡ Status.WriteFault → P.written report.old ≡ Some zs → IsPartOfReport zs (of_rewriting new.now xs (Ok made.now)) (P.written report.new) }
-    ensures no_usage { result ≢ Status.Usage }
-    ensures store_fault { result ≡ Status.StoreFault → Rose (S.faults store.old) (S.faults store.new) }
-    ensures read_fault { result ≢ Status.ReadFault }
-    ensures write_fault { result ≡ Status.WriteFault → Rose (P.faults report.old) (P.faults report.new) }
+// What the report of an image counts.
+fn counts_from(made: &Rewritten) -> Counts
+    ensures { result ≡ counts_of made.now }
 {
-    let counts = Counts {
+    Counts {
         steps: 0,
         entries: made.entries,
         words: made.words,
-    };
-    let Ok(text) = report_text(alloc, &Status::Done, &counts) else {
-        return answer(alloc, report, Status::OutOfMemory, &counts);
-    };
-    match store.save(alloc, new, made.bytes.as_slice()) {
-        Ok(()) => write_answer(report, text.as_bytes(), Status::Done),
-        Err(SaveErr::Failed) => write_answer(report, STORE_FAULT, Status::StoreFault),
-        Err(SaveErr::OutOfMemory) => answer(alloc, report, Status::OutOfMemory, &counts),
     }
 }
 
@@ -97,10 +73,16 @@ pub fn rewrite_file<S: Store, P: Sink>(
     ensures read_fault { result ≢ Status.ReadFault }
     ensures write_fault { result ≡ Status.WriteFault → Rose (P.faults report.old) (P.faults report.new) }
     ensures others { (m : Files) → S.files store.old ≡ Some m → SameButIn m (S.files store.new) new.now }
-    ensures files_stay { result ≢ Status.Done → result ≢ Status.StoreFault → result ≢ Status.WriteFault → S.files store.new ≡ S.files store.old }
+    ensures files_stay { keeps_files result ≡ true → S.files store.new ≡ S.files store.old }
+    ensures missing_file { Lacks (S.files store.old) file.now → S.files store.new ≡ S.files store.old }
+    ensures saved_or_same { (m : Files) (xs : List ℕ) → S.files store.old ≡ Some m → result ≡ Status.WriteFault → Rose (S.faults store.old) (S.faults store.new) ⊎ ((S.files store.new ≡ Some m) ⊎ AreSaved m (S.files store.new) (of_content (rewrite_of new.now xs) xs (m file.now)).saved) }
 {
     match load_rewritten(alloc, store, file) {
-        Ok(made) => save_image(alloc, &made, new, store, report),
+        Ok(made) => {
+            let counts = counts_from(&made);
+            let image = made.bytes.as_slice();
+            save_and_answer(alloc, Status::Done, &counts, new, image, store, report)
+        }
         Err(status) => answer(alloc, report, status, &NO_COUNTS),
     }
 }

@@ -9,6 +9,8 @@ use std::alloc::{AllocError, Global};
 use std::test::Fail;
 use std::thread::Threads;
 
+mod dumps;
+
 const USAGE: &str =
     "usage: list FILE | rewrite FILE NEW | run FILE HARTS [FUEL [DUMP]] | replay FILE HARTS ORDER | make KIND N NEW\n";
 
@@ -344,7 +346,7 @@ fn prepared(
     })
 }
 
-// The answer to these words, which blanks part.
+// The answer to these words, which are parted by one blank each.
 fn answer_to<R: Threads + Sync>(
     rt: &R,
     alloc: Global,
@@ -352,8 +354,8 @@ fn answer_to<R: Threads + Sync>(
     outside: &mut Outside,
 ) -> Result<Status, AllocError> {
     let mut list = Vec::new(alloc);
-    for word in words.split(' ') {
-        if !word.is_empty() {
+    if !words.is_empty() {
+        for word in words.split(' ') {
             list.push(String::from_str(alloc, word)?)?;
         }
     }
@@ -445,7 +447,19 @@ fn other_words_are_no_command(rt: HostRuntime) -> Result<(), Fail> {
         "run file 01",
         "run file 1x",
         "run file +1",
-        "run file 1 5",
+        "run file 1 0",
+        "run file 1 07",
+        "run file 1 +5",
+        "run file 1 -5",
+        "run file 1 1x",
+        "run file 1 ",
+        "run file 1 1099511627777",
+        "run file 1 18446744073709551621",
+        "run file 1 100000000000000000000000000000000000000000000000000",
+        "run file 1 0 dump",
+        "run file 2 5",
+        "run file 2 5 dump",
+        "run file 1 5 dump 1",
         "Run file 1",
         "runs file 1",
         "walk file 1",
@@ -539,6 +553,7 @@ fn fuel_ends_a_run(rt: HostRuntime) -> Result<(), Fail> {
             rt.alloc(),
             "file",
             fuel,
+            None,
             &mut at.store,
             &mut at.input,
             &mut at.out,

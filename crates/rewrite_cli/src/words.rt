@@ -1,39 +1,119 @@
-ghost use Rattle.std.specs.Prelude.{◌≡◌, map, string_bytes};
-ghost use Rattle.rewrite_cli.specs.Words.{command_of};
+ghost use Rattle.std.specs.Prelude.{◌≡◌, ◌≤◌, [], ◌∷◌, None, if◌then◌else◌, map, slice_index, string_bytes};
+ghost use Rattle.std.specs.Option.{option_copied};
+ghost use Rattle.rewrite_cli.specs.Words.{command_of, number_up_to, is_run_by_one, run_for};
 ghost use Rattle.rewrite_cli.specs.Reading.{command_shown};
 
-/// As many instructions as a run has where none are named.
-pub const DEFAULT_FUEL: u64 = 1 << 40;
+/// As many instructions as a run may be given, and has where none are named.
+pub const MOST_FUEL: u64 = 1 << 40;
 
 /// What words ask for.
 #[derive(Clone, Copy)]
 pub enum Command<'a> {
-    /// Run the executable of this name for at most so many instructions.
-    Run { file: &'a str, fuel: u64 },
+    /// Run the executable of this name for at most so many instructions, and save the memory at its
+    /// ending under a name where one is given.
+    Run {
+        file: &'a str,
+        fuel: u64,
+        dump: Option<&'a str>,
+    },
     /// Rewrite the executable of this name, and save its image under another.
-    Rewrite { file: &'a str, new: &'a str },
+    Rewrite {
+        file: &'a str,
+        new: &'a str,
+    },
     /// The words are no command.
     Unknown,
+}
+
+// The number that a word is which begins with a digit other than 0.
+fn parsed_up_to(word: &str, limit: u64) -> Option<u64>
+    requires { 49 ≤ slice_index word.now 0 }
+    ensures { result ≡ number_up_to limit word.now }
+{
+    let Ok(number) = u64::from_str_radix(word, 10) else {
+        return None;
+    };
+    if number <= limit { Some(number) } else { None }
+}
+
+// The number that a word is: decimal digits with no leading zero, and not above a limit.
+fn number_up_to(word: &str, limit: u64) -> Option<u64>
+    ensures { result ≡ number_up_to limit word.now }
+{
+    match word.as_bytes() {
+        [b'1'..=b'9', ..] => parsed_up_to(word, limit),
+        _ => None,
+    }
+}
+
+// The words before and behind the file are those of a run by one hart.
+fn is_run_by_one(verb: &str, harts: &str) -> bool
+    ensures { result ≡ is_run_by_one verb.now harts.now }
+{
+    verb == "run" && harts == "1"
+}
+
+// A run by one hart, for at most as many instructions as a word says, if the words are one.
+fn run_from<'a>(
+    verb: &str,
+    file: &'a str,
+    harts: &str,
+    fuel: &str,
+    dump: Option<&'a str>,
+) -> Command<'a>
+    ensures { command_shown result ≡ (if is_run_by_one verb.now harts.now then run_for file.now fuel.now (option_copied dump.entry) else None) }
+{
+    if !is_run_by_one(verb, harts) {
+        return Command::Unknown;
+    }
+    match number_up_to(fuel, MOST_FUEL) {
+        Some(fuel) => Command::Run { file, fuel, dump },
+        None => Command::Unknown,
+    }
+}
+
+// The command that three words are.
+fn short_command<'a>(verb: &str, file: &'a str, third: &'a str) -> Command<'a>
+    ensures { command_shown result ≡ command_of (verb.now ∷ file.now ∷ third.now ∷ []) }
+{
+    if is_run_by_one(verb, third) {
+        Command::Run {
+            file,
+            fuel: MOST_FUEL,
+            dump: None,
+        }
+    } else if verb == "rewrite" {
+        Command::Rewrite { file, new: third }
+    } else {
+        Command::Unknown
+    }
 }
 
 /// The command that the words are.
 pub fn command_from<'a>(words: &'a [String]) -> Command<'a>
     ensures { command_shown result ≡ command_of (map string_bytes words.now) }
 {
-    let [verb, file, third] = words else {
-        return Command::Unknown;
-    };
-    if verb.as_str() == "run" && third.as_str() == "1" {
-        Command::Run {
-            file: file.as_str(),
-            fuel: DEFAULT_FUEL,
+    match words {
+        [verb, file, third] => short_command(verb.as_str(), file.as_str(), third.as_str()),
+        [verb, file, harts, fuel] => {
+            run_from(
+                verb.as_str(),
+                file.as_str(),
+                harts.as_str(),
+                fuel.as_str(),
+                None,
+            )
         }
-    } else if verb.as_str() == "rewrite" {
-        Command::Rewrite {
-            file: file.as_str(),
-            new: third.as_str(),
+        [verb, file, harts, fuel, dump] => {
+            let (file, dump) = (file.as_str(), dump.as_str());
+            run_from(
+                verb.as_str(),
+                file,
+                harts.as_str(),
+                fuel.as_str(),
+                Some(dump),
+            )
         }
-    } else {
-        Command::Unknown
+        _ => Command::Unknown,
     }
 }

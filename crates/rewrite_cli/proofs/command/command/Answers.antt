@@ -18,34 +18,44 @@ returns-in-Unknown-clause-report_so_far g c = λ m xs zs files rest e h.
 pub returns-in-Run-clause-answer : goal.returns-in-Run-clause-answer
 returns-in-Run-clause-answer g c = λ m xs files rest f.
     let run = sym c.command_from.ensures ∙ ap command_shown c.in-Run.is in
-    c.run_command.ensures.answer m xs files rest f ∙ ap (λ (e : Effect). e.status) (sym (effect_run (map string_bytes c.args.words.now) m xs _ _ run))
+    c.run_command.ensures.answer m xs files rest f ∙ ap (λ (e : Effect). e.status) (sym (effect_run (map string_bytes c.args.words.now) m xs _ _ _ run))
 
 pub returns-in-Run-clause-output : goal.returns-in-Run-clause-output
 returns-in-Run-clause-output g c = λ m xs ys files rest f h.
     let run = sym c.command_from.ensures ∙ ap command_shown c.in-Run.is in
     c.run_command.ensures.output m xs ys files rest f h
-    ∙ ap (λ (e : Effect). Some (ys ++ e.output)) (sym (effect_run (map string_bytes c.args.words.now) m xs _ _ run))
+    ∙ ap (λ (e : Effect). Some (ys ++ e.output)) (sym (effect_run (map string_bytes c.args.words.now) m xs _ _ _ run))
 
 pub returns-in-Run-clause-unread : goal.returns-in-Run-clause-unread
 returns-in-Run-clause-unread g c = λ m xs files rest f.
     let run = sym c.command_from.ensures ∙ ap command_shown c.in-Run.is in
-    c.run_command.ensures.unread m xs files rest f ∙ ap (λ (e : Effect). Some e.rest) (sym (effect_run (map string_bytes c.args.words.now) m xs _ _ run))
+    c.run_command.ensures.unread m xs files rest f ∙ ap (λ (e : Effect). Some e.rest) (sym (effect_run (map string_bytes c.args.words.now) m xs _ _ _ run))
 
 pub returns-in-Run-clause-report : goal.returns-in-Run-clause-report
 returns-in-Run-clause-report g c = λ m xs zs files rest f h.
     let run = sym c.command_from.ensures ∙ ap command_shown c.in-Run.is in
     c.run_command.ensures.report m xs zs files rest f h
-    ∙ ap (λ (e : Effect). Some (zs ++ report_of e.counts c.run_command.result)) (sym (effect_run (map string_bytes c.args.words.now) m xs _ _ run))
+    ∙ ap (λ (e : Effect). Some (zs ++ report_of e.counts c.run_command.result)) (sym (effect_run (map string_bytes c.args.words.now) m xs _ _ _ run))
 
 pub returns-in-Run-clause-output_so_far : goal.returns-in-Run-clause-output_so_far
 returns-in-Run-clause-output_so_far g c = λ m xs ys files rest h.
     let run = sym c.command_from.ensures ∙ ap command_shown c.in-Run.is in
-    rw (effect_run (map string_bytes c.args.words.now) m xs _ _ run) (c.run_command.ensures.output_so_far m xs ys files rest h)
+    rw (effect_run (map string_bytes c.args.words.now) m xs _ _ _ run) (c.run_command.ensures.output_so_far m xs ys files rest h)
 
 pub returns-in-Run-clause-report_so_far : goal.returns-in-Run-clause-report_so_far
 returns-in-Run-clause-report_so_far g c = λ m xs zs files rest e h.
     let run = sym c.command_from.ensures ∙ ap command_shown c.in-Run.is in
-    rw (effect_run (map string_bytes c.args.words.now) m xs _ _ run) (c.run_command.ensures.report_so_far m xs zs files rest e h)
+    rw (effect_run (map string_bytes c.args.words.now) m xs _ _ _ run) (c.run_command.ensures.report_so_far m xs zs files rest e h)
+
+pub returns-in-Run-clause-saved : goal.returns-in-Run-clause-saved
+returns-in-Run-clause-saved g c = λ m xs files told f.
+    let run = sym c.command_from.ensures ∙ ap command_shown c.in-Run.is in
+    rw (effect_run (map string_bytes c.args.words.now) m xs _ _ _ run) (c.run_command.ensures.saved m xs files (rw run at told) f)
+
+pub returns-in-Run-clause-saved_or_same : goal.returns-in-Run-clause-saved_or_same
+returns-in-Run-clause-saved_or_same g c = λ m xs files told e.
+    let run = sym c.command_from.ensures ∙ ap command_shown c.in-Run.is in
+    rw (effect_run (map string_bytes c.args.words.now) m xs _ _ _ run) (c.run_command.ensures.saved_or_same m xs files (rw run at told) e)
 
 pub returns-in-Rewrite-clause-output_so_far : goal.returns-in-Rewrite-clause-output_so_far
 returns-in-Rewrite-clause-output_so_far g c = λ m xs ys files rest h. nothing_written _ ys _ h
