@@ -81,6 +81,12 @@ pub part_of_text : (before : List ℕ) (counts : Counts) (status : Status) (e : 
 part_of_text before counts status e text written t is p =
     record { replaced = status; counts = counts; is = is; count = p.0; are = p.1 ∙ ap (λ (v : List ℕ). Some (before ++ take p.0 v)) t }
 
+-- the bytes of a report are that of the answer that was not replaced
+pub reported_as : (answer status : Status) (counts : Counts) (before text : List ℕ) (written : Option (List ℕ)) → (answer ≡ status) ⊎ (answer ≡ WriteFault) → answer ≢ WriteFault
+    → text ≡ report_of counts status → written ≡ Some (before ++ text) → written ≡ Some (before ++ report_of counts answer)
+reported_as answer status counts before text written (inl e) w t h = rw e (h ∙ ap (λ (v : List ℕ). Some (before ++ v)) t)
+reported_as answer status counts before text written (inr e) w t h = absurd (w e)
+
 -- nothing of it
 pub nothing_reported : (before : List ℕ) (e : Effect) (written : Option (List ℕ)) → written ≡ Some before → IsPartOfReport before e written
 nothing_reported before e written h =

@@ -4,7 +4,6 @@ use Rattle.outside_ports.specs.Ports.{Files, Lacks, SameButIn, SavedIn}
 use Rattle.outside_ports.specs.Fakes.{File}
 use Rattle.rv64_decode.specs.Area.{Area}
 use Rattle.elf_image.specs.declared.rules.ElfErr.{ElfErr}
-use Rattle.elf_image.specs.declared.rules.ElfErr.TheVariants.{NotElf as NotAnElf, Unbuilt as NotBuilt, OutOfMemory as NoMemory}
 use Rattle.guest_memory.specs.Spans.{all_bytes}
 use Rattle.serial_run.specs.Serial.{State, start_of, ended, serial, executed_of}
 use Rattle.serial_run.specs.declared.machine.End.{End}
@@ -17,9 +16,10 @@ use Rattle.rewriter.specs.Admission.{Admission, Admitted, Bad, Refused as IsRefu
 use Rattle.rewrite_cli.specs.Words.{Command, Run, Rewrite, command_of}
 use Rattle.rewrite_cli.specs.Status.{is_from_outside, is_early, is_ending}
 use Rattle.rewrite_cli.specs.Counts.{of_steps, no_counts}
+use Rattle.rewrite_cli.specs.Refusals.{refusal_of}
 use Rattle.rewrite_cli.specs.Texts.{report_of}
 use Rattle.rewrite_cli.specs.declared.counts.Counts.{Counts}
-use Rattle.rewrite_cli.specs.declared.status.Reason.TheVariants.{LoadTooLong, NotElf, Unbuilt, BadMark, Altered}
+use Rattle.rewrite_cli.specs.declared.status.Reason.TheVariants.{LoadTooLong, BadMark, Altered}
 use Rattle.rewrite_cli.specs.declared.status.Status.{Status}
 use Rattle.rewrite_cli.specs.declared.status.Status.TheVariants.{Done, Exited, Faulted, Spent, Usage, Refused, StoreFault, ReadFault, WriteFault, OutOfMemory}
 
@@ -42,14 +42,9 @@ load_limit = 84934656
 abbrev pub only : Status → List ℕ → Effect
 only status input = record { status = status; output = []; rest = input; counts = no_counts; saved = None }
 
-abbrev pub reason_of : ElfErr → Status
-reason_of NotAnElf = Refused NotElf
-reason_of NotBuilt = Refused Unbuilt
-reason_of NoMemory = OutOfMemory
-
 -- the answer to an executable that is not rewritten
 abbrev pub status_of_refusal : RewriteErr → Status
-status_of_refusal (NotRead e) = reason_of e
+status_of_refusal (NotRead e) = refusal_of e
 status_of_refusal NoRoom = OutOfMemory
 
 -- what a command does with a file, if it is there and not too long
@@ -92,7 +87,7 @@ ran fuel dump s =
 abbrev pub of_admission : ℕ → Option (List ℕ) → List ℕ → Admission → Effect
 of_admission fuel dump input (Admitted image) = ran fuel dump (start_of image.elf input)
 of_admission fuel dump input Bad = only (Refused BadMark) input
-of_admission fuel dump input (IsRefused why) = only (reason_of why) input
+of_admission fuel dump input (IsRefused why) = only (refusal_of why) input
 of_admission fuel dump input (Differs offset) = only (Refused (Altered offset)) input
 
 -- a run of the file with these bytes
@@ -107,7 +102,7 @@ counts_of made = record { steps = 0; entries = made.entries; words = made.words 
 abbrev pub of_rewriting : List ℕ → List ℕ → Result Rewritten ElfErr → Effect
 of_rewriting new input (Ok made) =
     record { status = Done; output = []; rest = input; counts = counts_of made; saved = Some (new, made.bytes) }
-of_rewriting new input (Err e) = only (reason_of e) input
+of_rewriting new input (Err e) = only (refusal_of e) input
 
 -- the image of the file with these bytes, saved under a name
 abbrev pub rewrite_of : List ℕ → List ℕ → List ℕ → Effect

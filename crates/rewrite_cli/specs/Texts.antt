@@ -5,8 +5,7 @@ use Rattle.rv64_decode.specs.declared.memory.MemFault.{MemFault}
 use Rattle.rv64_decode.specs.declared.memory.MemFault.TheVariants.{Misaligned, Unmapped, Denied}
 use Rattle.rv64_decode.specs.declared.outcome.Fault.{Fault}
 use Rattle.rv64_decode.specs.declared.outcome.Fault.TheVariants.{Fetch, Illegal, Break, Target, Load as LoadFault, Store as StoreRefused}
-use Rattle.rewrite_cli.specs.declared.status.Reason.{Reason}
-use Rattle.rewrite_cli.specs.declared.status.Reason.TheVariants.{LoadTooLong, NotElf, Unbuilt, BadMark, Altered}
+use Rattle.rewrite_cli.specs.Refusals.{reason_text}
 use Rattle.rewrite_cli.specs.declared.status.Status.{Status}
 use Rattle.rewrite_cli.specs.declared.counts.Counts.{Counts}
 use Rattle.rewrite_cli.specs.declared.status.Status.TheVariants.{Done, Exited, Faulted, Spent, Usage, Refused, StoreFault, ReadFault, WriteFault, OutOfMemory}
@@ -32,14 +31,6 @@ fault_text Break = codes "break"
 fault_text Target = codes "target"
 fault_text (LoadFault why) = codes "load-" ++ why_text why
 fault_text (StoreRefused why) = codes "store-" ++ why_text why
-
--- a refusal and its fields in order, in decimal
-abbrev pub reason_text : Reason → List ℕ
-reason_text (LoadTooLong limit) = codes "load-too-long " ++ decimal limit
-reason_text NotElf = codes "not-elf"
-reason_text Unbuilt = codes "unbuilt"
-reason_text BadMark = codes "bad-mark"
-reason_text (Altered offset) = codes "altered " ++ decimal offset
 
 abbrev pub usage_text : List ℕ
 usage_text = codes "usage: list FILE | rewrite FILE NEW | run FILE HARTS [FUEL [DUMP]] | replay FILE HARTS ORDER | make KIND N NEW"

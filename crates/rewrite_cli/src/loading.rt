@@ -3,8 +3,8 @@ ghost use Rattle.outside_ports.specs.Ports.{Files, Rose, Lacks};
 ghost use Rattle.rewrite_cli.specs.Status.{is_from_outside};
 ghost use Rattle.rewrite_cli.specs.Effect.{Effect, only, of_content, is_refusal, status_of_refusal};
 
+use crate::refusals::refusal_from;
 use crate::status::{Reason, Status};
-use elf_image::ElfErr;
 use outside_ports::{Store, StoreErr};
 use rewriter::RewriteErr;
 use std::alloc::Global;
@@ -30,13 +30,12 @@ pub fn load<S: Store>(alloc: Global, store: &mut S, file: &str) -> Result<Vec<u8
     }
 }
 
-/// The answer to a file that is no executable which is read.
+/// The answer to a file that is not rewritten.
 pub fn refusal(why: RewriteErr) -> Status
     ensures { result ≡ status_of_refusal why }
 {
     match why {
-        RewriteErr::Elf(ElfErr::NotElf) => Status::Refused(Reason::NotElf),
-        RewriteErr::Elf(ElfErr::Unbuilt) => Status::Refused(Reason::Unbuilt),
-        RewriteErr::Elf(ElfErr::OutOfMemory) | RewriteErr::OutOfMemory => Status::OutOfMemory,
+        RewriteErr::Elf(e) => refusal_from(e),
+        RewriteErr::OutOfMemory => Status::OutOfMemory,
     }
 }

@@ -5,6 +5,7 @@ mod command;
 mod counts;
 mod dumping;
 mod loading;
+mod refusals;
 mod report;
 mod rewriting;
 mod run;

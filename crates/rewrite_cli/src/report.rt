@@ -1,10 +1,11 @@
 ghost use Rattle.std.specs.Prelude.{◌≡◌, ◌+◌, ◌-◌, ◌<◌, ◌≤◌, ◌++◌, ◌⊎◌, ◌≢◌, ℕ, List, Some, take, string_bytes, codes, decimal, IfOk, OnOk, OnErr};
 ghost use Rattle.outside_ports.specs.Ports.{Rose};
 ghost use Rattle.rewrite_cli.specs.Counts.{of_steps};
-ghost use Rattle.rewrite_cli.specs.Texts.{report_of, fault_text, why_text, reason_text, count_lines, line, IsReportPart};
+ghost use Rattle.rewrite_cli.specs.Texts.{report_of, fault_text, why_text, count_lines, line, IsReportPart};
 
 use crate::counts::Counts;
-use crate::status::{Reason, Status};
+use crate::refusals::refusal_line;
+use crate::status::Status;
 use outside_ports::{Failed, Sink};
 use rv64_decode::{Fault, MemFault};
 use std::alloc::{AllocError, Global};
@@ -50,19 +51,6 @@ fn count_text(alloc: Global, steps: u64) -> Result<String, AllocError>
     let line = format!(in alloc; "steps {steps}\n")?;
     text.push_str(line.as_str())?;
     Ok(text)
-}
-
-// A refusal with its fields.
-fn reason_line(alloc: Global, why: Reason) -> Result<String, AllocError>
-    ensures { IfOk result (λ s. string_bytes s ≡ line (codes "refused " ++ reason_text why)) }
-{
-    match why {
-        Reason::LoadTooLong { limit } => format!(in alloc; "refused load-too-long {limit}\n"),
-        Reason::NotElf => String::from_str(alloc, "refused not-elf\n"),
-        Reason::Unbuilt => String::from_str(alloc, "refused unbuilt\n"),
-        Reason::BadMark => String::from_str(alloc, "refused bad-mark\n"),
-        Reason::Altered { offset } => format!(in alloc; "refused altered {offset}\n"),
-    }
 }
 
 fn exit_text(alloc: Global, steps: u64, code: u8) -> Result<String, AllocError>
@@ -111,7 +99,7 @@ pub fn report_text(alloc: Global, status: &Status, counts: &Counts) -> Result<St
         Status::Faulted { kind, pc, addr } => fault_report(alloc, steps, kind, pc, addr),
         Status::Spent => String::from_str(alloc, "spent\n"),
         Status::Usage => String::from_str(alloc, USAGE),
-        Status::Refused(why) => reason_line(alloc, why),
+        Status::Refused(why) => refusal_line(alloc, why),
         Status::StoreFault => String::from_str(alloc, "store-fault\n"),
         Status::ReadFault => String::from_str(alloc, "read-fault\n"),
         Status::WriteFault => Ok(String::new(alloc)),

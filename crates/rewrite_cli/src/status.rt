@@ -3,15 +3,52 @@ ghost use Rattle.rewrite_cli.specs.Status.{exit_number_of};
 
 use rv64_decode::Fault;
 
-/// Why a command is refused.
+/// Why a command is refused. What is said of a file is said of the executable in it: of the original
+/// part, where the file is an image that is run.
 #[derive(Clone, Copy, PartialEq, Eq, Debug)]
 pub enum Reason {
-    /// A file has more bytes than this limit.
+    /// A file has more bytes than this limit of what is loaded.
     LoadTooLong { limit: u64 },
+    /// The file has more than 67,108,864 bytes.
+    TooLong { length: u64 },
     /// The file is no ELF file.
     NotElf,
-    /// The file is of a form that is not read yet.
-    Unbuilt,
+    /// The file ends before its ELF header, or its program headers, which need so many bytes.
+    HeaderCut { need: u128, have: u64 },
+    /// The file's class is not that of 64 bits.
+    Class(u8),
+    /// The file's byte order is not little-endian.
+    ByteOrder(u8),
+    /// The file's version of the format is not 1.
+    Version(u32),
+    /// The file is no static executable.
+    FileType(u16),
+    /// The file is not for RISC-V.
+    Machine(u16),
+    /// The file has processor flags.
+    Flags(u32),
+    /// The file's program headers are not of 56 bytes.
+    HeaderSize(u16),
+    /// The file has more than 64 program headers.
+    TooManyHeaders { count: u32 },
+    /// A program header is the mark of an image.
+    Marked { index: u32 },
+    /// A load segment has more bytes in the file than in memory.
+    SegmentSize { index: u32 },
+    /// The bytes of a load segment pass the end of the file.
+    SegmentCut { index: u32 },
+    /// The file is to be linked dynamically.
+    Dynamic { index: u32 },
+    /// A load segment is both writable and executable.
+    WritableCode { index: u32 },
+    /// A load segment reaches past the address 0x50000000.
+    Range { index: u32 },
+    /// The load segments have more than 268,435,456 bytes in memory.
+    TooMuchMemory { bytes: u64 },
+    /// Two load segments have an address in common.
+    Overlap { first: u32, second: u32 },
+    /// The entry is no multiple of 4, or lies in no executable segment.
+    EntryOutside { entry: u64 },
     /// The file is marked as an image, but not whole.
     BadMark,
     /// The file is not the image of its original part: the first byte that differs, or the shorter

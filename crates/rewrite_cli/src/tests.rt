@@ -10,6 +10,7 @@ use std::test::Fail;
 use std::thread::Threads;
 
 mod dumps;
+mod files;
 
 const USAGE: &str =
     "usage: list FILE | rewrite FILE NEW | run FILE HARTS [FUEL [DUMP]] | replay FILE HARTS ORDER | make KIND N NEW\n";
@@ -47,94 +48,6 @@ static ECHO: [u32; 12] = [
     0x0000_0513, // addi a0,x0,0
     0x05d0_0893, // addi a7,x0,93
     0x0000_0073, // ecall
-];
-
-// A whole file with two program headers, which adds two arrays of one number.
-static TWO_HEADERS: [u32; 84] = [
-    0x464c_457f,
-    0x0001_0102,
-    0,
-    0,
-    0x00f3_0002,
-    0x0000_0001,
-    0x0001_00b0,
-    0,
-    0x0000_0040,
-    0,
-    0,
-    0,
-    0,
-    0x0038_0040,
-    0x0000_0002,
-    0,
-    0x0000_0001,
-    0x0000_0005,
-    0,
-    0,
-    0x0001_0000,
-    0,
-    0x0001_0000,
-    0,
-    0x0000_0150,
-    0,
-    0x0000_0150,
-    0,
-    0x0000_1000,
-    0,
-    0x0000_0001,
-    0x0000_0006,
-    0,
-    0,
-    0x0002_0000,
-    0,
-    0x0002_0000,
-    0,
-    0,
-    0,
-    0x0000_0018,
-    0,
-    0x0000_1000,
-    0,
-    0x0002_05b7,
-    0x0000_04b7,
-    0x0084_849b,
-    0x0095_8633,
-    0x0096_0533,
-    0x0006_0693,
-    0x0000_0293,
-    0x0055_b023,
-    0x0052_8333,
-    0x0066_3023,
-    0x0012_8293,
-    0x0085_8593,
-    0x0086_0613,
-    0xfed5_94e3,
-    0x4095_85b3,
-    0x4096_0633,
-    0x0005_b703,
-    0x0006_3783,
-    0x00f7_0733,
-    0x00e5_3023,
-    0x0085_8593,
-    0x0086_0613,
-    0x0085_0513,
-    0xfed5_92e3,
-    0x4095_0533,
-    0x0095_06b3,
-    0x0000_0393,
-    0x0005_3703,
-    0x00e3_83b3,
-    0x0085_0513,
-    0xfed5_1ae3,
-    0xfe71_3c23,
-    0x0010_0513,
-    0xff81_0593,
-    0x0080_0613,
-    0x0400_0893,
-    0x0000_0073,
-    0x0000_0513,
-    0x05d0_0893,
-    0x0000_0073,
 ];
 
 // A program of a few words that faults, or ends, and the report of its run.
@@ -403,30 +316,6 @@ fn endings_are_reported(rt: HostRuntime) -> Result<(), Fail> {
     Ok(())
 }
 
-#[test]
-fn other_files_are_refused(rt: HostRuntime) -> Result<(), Fail> {
-    let mut short = bytes_of(rt.alloc(), &TWO_HEADERS[..16])?;
-    short.truncate(63);
-    let two_headers = bytes_of(rt.alloc(), &TWO_HEADERS)?;
-    let long = vec![in rt.alloc(); 0u8; 84_934_657]?;
-    let not_elf = vec![in rt.alloc(); 0u8; 84_934_656]?;
-    for (file, report) in [
-        (b"".as_slice(), "refused not-elf\n"),
-        (short.as_slice(), "refused unbuilt\n"),
-        (two_headers.as_slice(), "refused unbuilt\n"),
-        (long.as_slice(), "refused load-too-long 84934656\n"),
-        (not_elf.as_slice(), "refused not-elf\n"),
-    ] {
-        let mut at = prepared(rt.alloc(), file, "in", 200, NONE_FAILS)?;
-        let status = answer_to(&rt, rt.alloc(), "run file 1", &mut at)?;
-        assert!(rt; at.report.bytes() == report.as_bytes(), "not: {report}");
-        assert!(rt; status.exit_number() == 124, "number at {report}");
-        assert!(rt; at.out.bytes().is_empty(), "output at {report}");
-        assert!(rt; at.input.rest() == b"in".as_slice(), "input at {report}");
-    }
-    Ok(())
-}
-
 // Nothing is loaded, read or written: the first call of each would fail.
 #[test]
 fn other_words_are_no_command(rt: HostRuntime) -> Result<(), Fail> {
@@ -632,7 +521,7 @@ fn rewritten_file_runs_as_its_original(rt: HostRuntime) -> Result<(), Fail> {
             == b"rewritten entries 0 words 0\nhart 0 instructions 2\nsteps 2\nexit 0\n".as_slice()
     );
     let status = answer_to(&rt, rt.alloc(), "rewrite new file", &mut at)?;
-    assert!(rt; status == Status::Refused(Reason::Unbuilt));
+    assert!(rt; status == Status::Refused(Reason::Marked { index: 1 }));
     assert!(rt; at.store.get("file") == Some(file.as_slice()));
     assert!(rt; at.out.bytes().is_empty());
     assert!(rt; at.input.rest() == b"in".as_slice());

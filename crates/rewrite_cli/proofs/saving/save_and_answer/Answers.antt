@@ -1,7 +1,7 @@
 use Rattle.std.proofs.Common.{refl, inl, inr, ◌∙◌}
 use Rattle.rewrite_cli.specs.Counts.{no_counts}
 use Rattle.rewrite_cli.specs.declared.status.Status.TheVariants.{StoreFault}
-use Rattle.rewrite_cli.proofs.Effects.{no_write_fault, report_part, part_of_text, others_of_saved}
+use Rattle.rewrite_cli.proofs.Effects.{no_write_fault, report_part, part_of_text, reported_as, others_of_saved}
 use Rattle.rewrite_cli.proofs.saving.save_and_answer.Goals as goal
 
 pub returns-in_default-clause-prefix : goal.returns-in_default-clause-prefix
@@ -14,6 +14,10 @@ pub returns-in-Ok-save-clause-prefix : goal.returns-in-Ok-save-clause-prefix
 returns-in-Ok-save-clause-prefix g c = λ e zs status counts w h.
     part_of_text zs _ _ _ _ _ (c.as_bytes.ensures.value ∙ c.in-Ok.ensures) (inr (status, counts))
     (c.write_answer.ensures.prefix zs (no_write_fault c.args.status c.requires) w h)
+
+pub returns-in-Err-Failed-clause-reported : goal.returns-in-Err-Failed-clause-reported
+returns-in-Err-Failed-clause-reported g c = λ zs w h.
+    reported_as _ StoreFault _ zs _ _ (c.write_answer-in-Err-Failed.ensures.answer) w refl (c.write_answer-in-Err-Failed.ensures.written zs w h)
 
 pub returns-in-Err-Failed-clause-prefix : goal.returns-in-Err-Failed-clause-prefix
 returns-in-Err-Failed-clause-prefix g c = λ e zs status counts w h.
