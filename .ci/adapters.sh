@@ -81,6 +81,15 @@ case_is 'a closed input' 126 '' read-fault
 run bash -c "'$program' run echo 1 >out 2>report <."
 case_is 'a folder as the input' 126 '' read-fault
 
+run bash -c "'$program' run hello 1 8 dump >out 2>report </dev/null; status=\$?; [ ! -e dump ] && exit \$status"
+case_is 'as many instructions as do not end: no memory is saved' 121 hello spent
+run bash -c "'$program' run hello 1 9 dump >out 2>report </dev/null; status=\$?; [ \$(stat -c %s dump) = 25165992 ] && exit \$status"
+case_is 'the memory at an ending' 0 hello "$counts"
+run bash -c "head -c 162 dump | cmp -s - hello && head -c 25165830 /dev/zero | cmp -s - <(tail -c +163 dump)"
+case_is 'the file, and zeros behind it' 0 '' ''
+run bash -c "'$program' run hello 1 9 missing/dump >out 2>report </dev/null"
+case_is 'a memory that is saved to a missing folder' 125 hello store-fault
+
 run bash -c "'$program' rewrite hello new >out 2>report </dev/null"
 case_is 'a file that is rewritten' 0 '' 'rewritten entries 0 words 0'
 run bash -c "'$program' run new 1 >out 2>report </dev/null"
