@@ -1,0 +1,5 @@
+pub mod Lists
+pub mod Paths
+pub mod Closing
+pub mod States
+pub mod Results
