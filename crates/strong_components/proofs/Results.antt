@@ -60,6 +60,14 @@ all_numbered nodes s state idle seen v inside =
     (λ p e. absurd (idle_empty nodes s p v state idle (state.placed.stacked p v e)))
     (λ c e. record { number = c; is = e; given = number_given s.marks.items v c e })
 
+-- there are not more components than nodes
+pub number_below : (nodes : List Successors) (s : Search) → IsSound nodes s → (v : ℕ) → IsNumbered s.marks.items v → get_or (map number_of s.marks.items) v 0 < length nodes
+number_below nodes s state v one =
+    let below = state.closed_below v one.number one.is in
+    let few = state.counted in
+    let given = one.given in
+    omega arith
+
 -- along an edge the number does not rise
 pub edge_order : (nodes : List Successors) (s : Search) → IsSound nodes s → ((v : ℕ) → v < length nodes → IsNumbered s.marks.items v) → (a b : ℕ) → IsEdge nodes a b → get_or (map number_of s.marks.items) b 0 ≤ get_or (map number_of s.marks.items) a 0
 edge_order nodes s state all a b edge =

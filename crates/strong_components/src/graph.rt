@@ -2,10 +2,12 @@ ghost use Rattle.std.specs.Prelude.{ℕ, ◌<◌, ◌↔◌, IsTrue};
 ghost use Rattle.std.specs.Option.{ForSome};
 ghost use Rattle.strong_components.specs.Graph.{LeadsTo, LeadsInside};
 
-/// Where the edges of a node lead: to at most two nodes, each given by its index.
+/// Where the edges of a node lead: to at most two nodes, each given by its index in the list of nodes.
 #[derive(Clone, Copy, PartialEq, Eq, Debug)]
 pub struct Successors {
+    /// Where one edge leads, if there is one.
     pub first: Option<u32>,
+    /// Where the other leads; it may be the same node.
     pub second: Option<u32>,
 }
 

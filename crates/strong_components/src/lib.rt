@@ -13,13 +13,16 @@ pub use graph::{Successors, leads_inside};
 use search::Search;
 use std::alloc::{AllocError, Global};
 
-/// The number of each node's strongly connected component. Two nodes have the same number exactly
-/// where each is reached from the other; along an edge the number does not rise, so a component comes
-/// before those that lead to it. It takes time linear in the nodes, and about 40 bytes for each.
+/// The number of each node's strongly connected component, from 0. Two nodes have the same number
+/// exactly where each is reached from the other. Along an edge the number does not rise, so a component
+/// comes before those that lead to it. It takes time linear in the nodes, and about 40 bytes for each.
+/// Whether a graph's edges lead inside it, [`leads_inside`] tells.
 pub fn components(alloc: Global, nodes: &[Successors]) -> Result<Vec<u32>, AllocError>
     requires few { length nodes.now < 2 ^ 32 }
     requires inside { LeadsInside nodes.now }
     ensures each { IfOk result (λ numbers. vec_len numbers ≡ length nodes.now) }
+    ensures below { IfOk result (λ numbers. (a : ℕ) → a < length nodes.now
+        → slice_index numbers.items a < length nodes.now) }
     ensures same { IfOk result (λ numbers. (a b : ℕ) → a < length nodes.now → b < length nodes.now
         → (slice_index numbers.items a ≡ slice_index numbers.items b)
         ↔ (Reaches nodes.now a b × Reaches nodes.now b a)) }
