@@ -64,7 +64,8 @@ pub record IsClosedBy (marks : List Mark) (w most : ℕ) : Type 0 where
 -- The open nodes lie on the stack. Those at the places of the path are being visited, each reached from
 -- the one before. The bounds part the stack into segments, each strongly connected; every node reaches
 -- those above it. What the other open nodes lead to is closed, or open and not in a lower segment.
-pub record IsState (nodes : List Successors) (marks : List Mark) (stack bounds path : List ℕ) (count : ℕ) : Type 0 where
+pub record IsState (nodes : List Successors) (marks : List Mark) (stack bounds path : List ℕ) (count : ℕ)
+    : Type 0 where
   pub all_marked : length marks ≡ length nodes
   pub placed : IsPlaced marks stack
   pub path_rises : Rises path
@@ -72,11 +73,15 @@ pub record IsState (nodes : List Successors) (marks : List Mark) (stack bounds p
   pub bounds_rise : Rises bounds
   pub bounds_on_path : (b : ℕ) → Contains bounds b → Contains path b
   pub first_bound : 0 < length stack → Contains bounds 0
-  pub joined : (i j u v : ℕ) → slice_get stack i ≡ Some u → slice_get stack j ≡ Some v → AtOrAbove bounds i j → Reaches nodes u v
-  pub done : (i u w : ℕ) → slice_get stack i ≡ Some u → (Contains path i → ⊥) → IsEdge nodes u w → IsDone marks bounds i w
-  pub closed_edges : (u w c : ℕ) → slice_get marks u ≡ Some (Closed c) → IsEdge nodes u w → IsClosedBy marks w c
+  pub joined : (i j u v : ℕ) → slice_get stack i ≡ Some u → slice_get stack j ≡ Some v
+      → AtOrAbove bounds i j → Reaches nodes u v
+  pub done : (i u w : ℕ) → slice_get stack i ≡ Some u → (Contains path i → ⊥)
+      → IsEdge nodes u w → IsDone marks bounds i w
+  pub closed_edges : (u w c : ℕ) → slice_get marks u ≡ Some (Closed c)
+      → IsEdge nodes u w → IsClosedBy marks w c
   pub closed_below : (u c : ℕ) → slice_get marks u ≡ Some (Closed c) → c < count
-  pub closed_joined : (u v c : ℕ) → slice_get marks u ≡ Some (Closed c) → slice_get marks v ≡ Some (Closed c) → Reaches nodes u v
+  pub closed_joined : (u v c : ℕ) → slice_get marks u ≡ Some (Closed c)
+      → slice_get marks v ≡ Some (Closed c) → Reaches nodes u v
   pub counted : count + length bounds + unseen_count marks ≤ length nodes
   pub stacked : length stack + unseen_count marks ≤ length nodes
 

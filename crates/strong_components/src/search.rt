@@ -152,7 +152,8 @@ impl Search {
         requires rises { Rises self.old.bounds.items }
         ensures others { self.new ≡ record self.old { bounds = self.new.bounds } }
         ensures rises { Rises self.new.bounds.items }
-        ensures bounds { IsMerged successor self.old.marks.items self.old.bounds.items self.new.bounds.items }
+        ensures bounds { IsMerged successor self.old.marks.items
+            self.old.bounds.items self.new.bounds.items }
     {
         let Some(node) = successor else {
             return;
