@@ -1,0 +1,4 @@
+pub mod Closure
+pub mod Found
+pub mod Following
+pub mod Segments

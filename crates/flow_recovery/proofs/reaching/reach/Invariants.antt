@@ -1,0 +1,17 @@
+use Rattle.std.proofs.Common.{ℕ, ◌-◌, ◌≤◌, take, length, Contains}
+use Rattle.flow_recovery.specs.Code.{IsCode}
+use Rattle.flow_recovery.specs.Reaching.{AreReached}
+use Rattle.flow_recovery.proofs.Closure.{LeadTo}
+use Rattle.flow_recovery.proofs.reaching.reach.Given as goal
+
+abbrev pub invariant-loop-done : goal.invariant-loop-done
+invariant-loop-done l =
+    record {
+      reached : AreReached l.elf l.found.keys;
+      entry : IsCode l.elf l.elf.entry → Contains l.found.keys l.elf.entry;
+      lead : LeadTo l.elf (take l.done l.found.keys) l.found.keys;
+      within : l.done ≤ length l.found.keys;
+    }
+
+abbrev pub decreases-loop-done : goal.decreases-loop-done
+decreases-loop-done l = 262144 - l.done

@@ -1,0 +1,5 @@
+pub mod Code
+pub mod Flows
+pub mod Graphs
+pub mod Reaching
+pub mod Refusals

@@ -1,0 +1,143 @@
+ghost use Rattle.std.specs.Prelude.{◌≡◌};
+ghost use Rattle.elf_image.specs.Layout.{IsLoadable};
+ghost use Rattle.rv64_decode.specs.Row.{shifted, next_pc};
+ghost use Rattle.flow_recovery.specs.Code.{word_at};
+ghost use Rattle.flow_recovery.specs.Flows.{before, instr_of, asks_exit, flow_by, flow_outside, flow_at, pair_by, pair_at};
+
+use crate::code::word_at;
+use elf_image::Elf;
+use rv64_decode::{Instr, UpperOp, decode};
+
+/// Where a word leads.
+#[derive(Clone, Copy, PartialEq, Eq, Debug)]
+pub enum Flow {
+    /// Nowhere that is known.
+    Stop,
+    /// To the next word.
+    On,
+    /// To the next word and to a target.
+    Branch(u64),
+    /// To a target alone.
+    Jump(u64),
+    /// To the next word, and to a target as a call.
+    Call(u64),
+}
+
+// An address and a signed number, modulo 2^64.
+fn shifted(at: u64, imm: i32) -> u64
+    ensures { result ≡ shifted at imm }
+{
+    at.wrapping_add_signed(i64::from(imm))
+}
+
+// The address of the next word.
+pub(crate) fn next(at: u64) -> u64
+    ensures { result ≡ next_pc at }
+{
+    at.wrapping_add(4)
+}
+
+// The address of the word before.
+pub(crate) fn before(at: u64) -> u64
+    ensures { result ≡ before at }
+{
+    at.wrapping_sub(4)
+}
+
+// The instruction that a word stands for.
+#[tactic(auto, unfolding(crate::specs::Flows::instr_of))]
+fn instr_of(word: u32) -> Option<Instr>
+    ensures { result ≡ instr_of word }
+{
+    decode(word)
+}
+
+// Whether a word is addi a7, x0, 93 or addi a7, x0, 94.
+fn asks_exit(word: Option<u32>) -> bool
+    ensures { result ≡ asks_exit word }
+{
+    match word {
+        Some(w) => w == 0x05D0_0893 || w == 0x05E0_0893,
+        None => false,
+    }
+}
+
+// Where an instruction leads.
+fn flow_by(instr: &Instr, at: u64, ends: bool, pair: Option<u64>) -> Flow
+    ensures { result ≡ flow_by instr.now at ends pair }
+{
+    match *instr {
+        Instr::Branch { imm, .. } => Flow::Branch(shifted(at, imm)),
+        Instr::Jal { rd, imm } => {
+            let target = shifted(at, imm);
+            if rd.number() == 0 {
+                Flow::Jump(target)
+            } else {
+                Flow::Call(target)
+            }
+        }
+        Instr::Jalr { rd, .. } => match (pair, rd.number() == 0) {
+            (Some(target), true) => Flow::Jump(target),
+            (Some(target), false) => Flow::Call(target),
+            (None, true) => Flow::Stop,
+            (None, false) => Flow::On,
+        },
+        Instr::Ecall if ends => Flow::Stop,
+        Instr::Ebreak => Flow::Stop,
+        _ => Flow::On,
+    }
+}
+
+// Where a word outside the table leads.
+fn flow_outside(word: u32) -> Flow
+    ensures { result ≡ flow_outside word }
+{
+    if word % 4 == 3 && word / 4 % 8 != 7 {
+        Flow::On
+    } else {
+        Flow::Stop
+    }
+}
+
+// Where the word at an address leads. A pair that it ends is told by its target.
+#[tactic(auto, unfolding(crate::specs::Flows::flow_at))]
+pub(crate) fn flow_at(elf: &Elf, pair: Option<u64>, at: u64) -> Flow
+    requires { IsLoadable elf.now }
+    ensures { result ≡ flow_at elf.now pair at }
+{
+    match word_at(elf, at) {
+        None => Flow::Stop,
+        Some(word) => match instr_of(word) {
+            None => flow_outside(word),
+            Some(instr) => flow_by(&instr, at, asks_exit(word_at(elf, before(at))), pair),
+        },
+    }
+}
+
+// The target of an auipc and a jalr, the jalr at this address.
+fn pair_by(first: &Instr, second: &Instr, at: u64) -> Option<u64>
+    ensures { result ≡ pair_by first.now second.now at }
+{
+    let Instr::Upper { op: UpperOp::Auipc, rd: base, imm: high } = *first else {
+        return None;
+    };
+    let Instr::Jalr { rs1, imm: low, .. } = *second else {
+        return None;
+    };
+    if base.number() != rs1.number() {
+        return None;
+    }
+    let target = shifted(shifted(before(at), high), low);
+    Some(target - target % 2)
+}
+
+// The target of the pair that ends at an address, if one does.
+#[tactic(auto, unfolding(crate::specs::Flows::pair_at))]
+pub(crate) fn pair_at(elf: &Elf, at: u64) -> Option<u64>
+    requires { IsLoadable elf.now }
+    ensures { result ≡ pair_at elf.now at }
+{
+    let second = instr_of(word_at(elf, at)?)?;
+    let first = instr_of(word_at(elf, before(at))?)?;
+    pair_by(&first, &second, at)
+}

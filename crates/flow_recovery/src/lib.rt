@@ -1,0 +1,12 @@
+//! The reached words of an executable, with the edges between them: which words a run may come to, as
+//! far as the instruction words themselves tell.
+//!
+//! `specs/` has the definition: the words of code (`Code`), where a word leads (`Flows`), the least set
+//! of words that holds the entry and all that its words lead to (`Reached`), and that set as a graph
+//! (`Graph`).
+#![tactic(auto)]
+
+pub mod code;
+pub mod flow;
+mod reaching;
+pub mod refusal;
