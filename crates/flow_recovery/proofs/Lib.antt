@@ -1,4 +1,5 @@
 pub mod Closure
 pub mod Found
 pub mod Following
+pub mod Listed
 pub mod Segments

@@ -2,11 +2,16 @@
 //! far as the instruction words themselves tell.
 //!
 //! `specs/` has the definition: the words of code (`Code`), where a word leads (`Flows`), the least set
-//! of words that holds the entry and all that its words lead to (`Reached`), and that set as a graph
-//! (`Graph`).
+//! of words that holds the entry and all that its words lead to (`Reaching`), and that set as a graph
+//! (`Graphs`).
 #![tactic(auto)]
 
 pub mod code;
 pub mod flow;
+mod listing;
 mod reaching;
+pub mod recovery;
 pub mod refusal;
+
+pub use recovery::recover;
+pub use refusal::FlowErr;
