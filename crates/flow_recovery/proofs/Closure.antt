@@ -112,7 +112,7 @@ pub LeadTo-turn : (elf : Elf) (old found : List ℕ) (done at : ℕ) → LieFrom
 LeadTo-turn elf old found done at lie are lead in_old is g now =
     let here : Contains old at = subst (Contains old) (sym is) (Contains-get_or old done 0 in_old) in
     let next : take (done + 1) found ≡ take done old ++ at ∷ [] =
-        take-grown (done + 1) old found g (omega arith) ∙ take_more old done 0 in_old ∙ ap (λ x. take done old ++ x ∷ []) (sym is) in
+    take-grown (done + 1) old found g (omega arith) ∙ take_more old done 0 in_old ∙ ap (λ x. take done old ++ x ∷ []) (sym is) in
     let small = λ (a : ℕ) (m : Contains old a). code_below elf a lie (reached_code elf a (All-contains (Reached elf) old a are.each m)) in
     let within = λ (a : ℕ) (m : Contains (take done old) a). subst (λ l. Contains l a) (take-append-drop done old) (Contains-append_left (take done old) (drop done old) a m) in
     subst (λ l. LeadTo elf l found) (sym next) (LeadTo-push elf (take done old) old found at lead within small here g now)

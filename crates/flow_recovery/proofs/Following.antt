@@ -25,8 +25,9 @@ pub leads_found : (elf : Elf) (found : List ℕ) (a : ℕ) (pair : Option ℕ) �
 leads_found elf found a pair are m cases b s code =
     let r : Reached elf a = All-contains (Reached elf) found a are.each m in
     elim cases [
-      inl h ↦ leads_paired elf a pair r (All-contains (Reached elf) found (before a) are.each h.0) (sym h.1) b s code
-    | inr h ↦ leads_alone elf a pair r h.1 b s code ]
+      | inl h ↦ leads_paired elf a pair r (All-contains (Reached elf) found (before a) are.each h.0) (sym h.1) b s code
+      | inr h ↦ leads_alone elf a pair r h.1 b s code
+    ]
 
 before_next : (a : ℕ) → a < 2 ^ 64 → before (next_pc a) ≡ a
 before_next a h = omega arith

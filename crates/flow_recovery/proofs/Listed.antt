@@ -66,9 +66,10 @@ StartsFrom-turn elf words old new i h told now a =
     let push = StartsFrom-push elf (take i words) at a in
     let more : take (i + 1) words ≡ take i words ++ at ∷ [] = take_more words i 0 h in
     let before = told a in
-    let here = now a in
-    (λ m. subst (λ l. StartsFrom elf l a) (sym more) (push.0 (elim (here.0 m) [ inl p ↦ inl (before.0 p) | inr c ↦ inr c ])),
-        λ s. here.1 (elim (push.1 (subst (λ l. StartsFrom elf l a) more s)) [ inl p ↦ inl (before.1 p) | inr c ↦ inr c ]))
+    let here = now a in (
+      λ m. subst (λ l. StartsFrom elf l a) (sym more) (push.0 (elim (here.0 m) [ inl p ↦ inl (before.0 p) | inr c ↦ inr c ])),
+      λ s. here.1 (elim (push.1 (subst (λ l. StartsFrom elf l a) more s)) [ inl p ↦ inl (before.1 p) | inr c ↦ inr c ]),
+    )
 
 pub StartsFrom-none : (elf : Elf) (a : ℕ) → Contains (elf.entry ∷ []) a ↔ StartsFrom elf [] a
 StartsFrom-none elf a = (λ m. inl (by (Contains-push_cases [] elf.entry a m)), back)
@@ -100,5 +101,5 @@ member xs a (k, h, e) = any_passes_from_place (nat_eq a) xs k a (slice_get_read 
 pub reaches_no_more : (elf : Elf) (found : List ℕ) (n : ℕ) → AreAllReached elf found → length found < n → ¬ ReachesSoMany elf n
 reaches_no_more elf found n all few (xs, size, apart, reached) =
     let fits = length-le_from_is_member nat_eq_equiv xs found apart
-        (λ q m. member found q (all.every q (All-contains (Reached elf) xs q reached (Contains-list_any nat_eq exact_unsigned_eq xs q m)))) in
+    (λ q m. member found q (all.every q (All-contains (Reached elf) xs q reached (Contains-list_any nat_eq exact_unsigned_eq xs q m)))) in
     omega arith

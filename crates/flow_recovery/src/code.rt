@@ -22,7 +22,8 @@ fn word_in(segment: &Segment, addr: u64) -> u32
     ensures { result ≡ word_in segment.now addr }
 {
     let low = u32::from(byte_in(segment, addr)) + 0x100 * u32::from(byte_in(segment, addr + 1));
-    let high = u32::from(byte_in(segment, addr + 2)) + 0x100 * u32::from(byte_in(segment, addr + 3));
+    let high = u32::from(byte_in(segment, addr + 2))
+        + 0x100 * u32::from(byte_in(segment, addr + 3));
     low + 0x1_0000 * high
 }
 

@@ -118,7 +118,12 @@ pub(crate) fn flow_at(elf: &Elf, pair: Option<u64>, at: u64) -> Flow
 fn pair_by(first: &Instr, second: &Instr, at: u64) -> Option<u64>
     ensures { result ≡ pair_by first.now second.now at }
 {
-    let Instr::Upper { op: UpperOp::Auipc, rd: base, imm: high } = *first else {
+    let Instr::Upper {
+        op: UpperOp::Auipc,
+        rd: base,
+        imm: high,
+    } = *first
+    else {
         return None;
     };
     let Instr::Jalr { rs1, imm: low, .. } = *second else {

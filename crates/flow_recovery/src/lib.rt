@@ -12,6 +12,8 @@ mod listing;
 mod reaching;
 pub mod recovery;
 pub mod refusal;
+#[cfg(test)]
+mod tests;
 
 pub use recovery::recover;
 pub use refusal::FlowErr;

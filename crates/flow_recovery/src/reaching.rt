@@ -56,12 +56,7 @@ fn add(elf: &Elf, found: &mut IndexSet<u64>, at: u64) -> Result<(), FlowErr>
 }
 
 // Adds all to which a word leads, with what is known of a pair that it ends.
-fn follow(
-    elf: &Elf,
-    found: &mut IndexSet<u64>,
-    at: u64,
-    pair: Option<u64>,
-) -> Result<(), FlowErr>
+fn follow(elf: &Elf, found: &mut IndexSet<u64>, at: u64, pair: Option<u64>) -> Result<(), FlowErr>
     requires loadable { IsLoadable elf.now }
     requires reached { AreReached elf.now found.old.keys }
     requires leads { (b : ℕ) → Contains (successors at (flow_at elf.now pair at)) b → IsCode elf.now b → Reached elf.now b }

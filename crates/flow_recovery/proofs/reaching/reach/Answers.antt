@@ -17,7 +17,7 @@ loop-done-preserved c =
       reached = c.in_ok-visit.ensures.reached;
       entry = λ code. Contains-grown old new c.args.elf.now.entry grown (told.entry code);
       lead = LeadTo-turn c.args.elf.now old new c.loop-done.done _ c.requires.apart told.reached told.lead (omega arith)
-        (ap (λ l. get_or l c.loop-done.done 0) c.as_slice.ensures.keys) grown c.in_ok-visit.ensures.visited;
+          (ap (λ l. get_or l c.loop-done.done 0) c.as_slice.ensures.keys) grown c.in_ok-visit.ensures.visited;
       within = let l = length-grown old new grown in omega arith;
     }
 

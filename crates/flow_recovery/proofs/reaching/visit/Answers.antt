@@ -31,5 +31,6 @@ returns-else-is_some-clause-visited c =
     c.pair_in-pair.result c.pair_at-behind.result c.in_ok-follow.ensures.grows (Grows-refl mid) c.pair_in-pair.ensures
     c.in_ok-follow.ensures.has c.next-second.ensures c.pair_at-behind.ensures
     (λ m some. absurd (elim c.else-is_some.branch [
-      else-is_some-via-then-is_some+else-has w ↦ iff_false w.has.ensures w.if-has.false m
-    | else-is_some-via-else-is_some w ↦ true≢false (sym some ∙ sym c.is_some.ensures ∙ w.if-is_some.false) ]))
+      | else-is_some-via-then-is_some+else-has w ↦ iff_false w.has.ensures w.if-has.false m
+      | else-is_some-via-else-is_some w ↦ true≢false (sym some ∙ sym c.is_some.ensures ∙ w.if-is_some.false)
+    ]))

@@ -10,7 +10,7 @@ pub words_at-requires-clause-reached : goal.words_at-requires-clause-reached
 words_at-requires-clause-reached c =
     subst (All (Reached c.args.elf.now)) (sym c.as_slice.ensures.value)
     (λ k d h. c.in_ok-found.ensures.reached.each _
-        ((c.in_ok-addresses.ensures.each _).0 (Contains-get_or c.in_ok-addresses.addresses.items k d h)))
+    ((c.in_ok-addresses.ensures.each _).0 (Contains-get_or c.in_ok-addresses.addresses.items k d h)))
 
 pub returns-clause-graph : goal.returns-clause-graph
 returns-clause-graph c =
