@@ -9,7 +9,8 @@ use Rattle.elf_image.specs.declared.image.Elf.{Elf}
 use Rattle.rv64_decode.specs.Row.{next_pc}
 use Rattle.flow_recovery.specs.Code.{IsCode}
 use Rattle.flow_recovery.specs.Flows.{before, flow_at, pair_at, successors}
-use Rattle.flow_recovery.specs.Reaching.{Reached, entry, alone, paired, HasCodeOf, Grows, IsVisited, AreReached, AreAllReached}
+use Rattle.flow_recovery.specs.Reaching.{Reached, entry, alone, paired, AreAllReached}
+use Rattle.flow_recovery.specs.Search.{HasCodeOf, Grows, IsVisited, AreReached}
 use Rattle.flow_recovery.proofs.Found.{Contains-grown, take-grown}
 use Rattle.flow_recovery.proofs.Following.{wider}
 

@@ -9,7 +9,8 @@ use Rattle.flow_recovery.specs.Code.{IsCode, word_at}
 use Rattle.flow_recovery.specs.Flows.{before, asks_exit, instr_of, flow_by, flow_of, flow_from, flow_at, pair_at, successors}
 use Rattle.flow_recovery.specs.declared.flow.Flow.{Flow}
 use Rattle.flow_recovery.specs.declared.flow.Flow.TheVariants.{Stop, On, Jump, Call}
-use Rattle.flow_recovery.specs.Reaching.{Reached, AreReached, alone, paired}
+use Rattle.flow_recovery.specs.Reaching.{Reached, alone, paired}
+use Rattle.flow_recovery.specs.Search.{AreReached}
 
 -- what a reached word leads to is reached, where a pair counts only if its first word is reached
 pub leads_alone : (elf : Elf) (a : ℕ) (pair : Option ℕ) → Reached elf a → pair ≡ None → (b : ℕ) → Contains (successors a (flow_at elf pair a)) b → IsCode elf b → Reached elf b

@@ -7,7 +7,7 @@ use Rattle.std.proofs.lemmas.Map.Views.{exact_unsigned_eq}
 use Rattle.std.specs.List.{list_any}
 use Rattle.indexmap.specs.IndexSet.{insert_key}
 use Rattle.indexmap.proofs.CallerLemmas.{Contains-list_any}
-use Rattle.flow_recovery.specs.Reaching.{Grows}
+use Rattle.flow_recovery.specs.Search.{Grows}
 
 pub absent : (xs : List ℕ) (a : ℕ) → ¬ Contains xs a → list_any (nat_eq a) xs ≡ false
 absent xs a none = false_from_ne_true _ (λ e. none (Contains-list_any nat_eq exact_unsigned_eq xs a e))

@@ -3,3 +3,4 @@ pub mod Found
 pub mod Following
 pub mod Listed
 pub mod Segments
+pub mod Unique

@@ -17,7 +17,7 @@ use Rattle.indexmap.proofs.CallerLemmas.{Contains-list_any}
 use Rattle.elf_image.specs.declared.image.Elf.{Elf}
 use Rattle.flow_recovery.specs.Graphs.{IsCall, IsStart}
 use Rattle.flow_recovery.specs.Reaching.{Reached, AreAllReached}
-use Rattle.flow_recovery.specs.Refusals.{ReachesSoMany}
+use Rattle.flow_recovery.specs.Refusals.{ReachesAtLeast}
 
 -- numbers that differ, sorted
 pub increasing : (xs ys : List ℕ) → IsDistinct nat_eq xs → IsPermutation xs ys → IsSorted nat_cmp ys → IsStrictlyIncreasing ys
@@ -98,7 +98,7 @@ member : (xs : List ℕ) (a : ℕ) → Contains xs a → list_any (nat_eq a) xs 
 member xs a (k, h, e) = any_passes_from_place (nat_eq a) xs k a (slice_get_read xs (length xs) k a refl h (sym e)) (nat_eq_equiv.refl a)
 
 -- no more words are reached than are found
-pub reaches_no_more : (elf : Elf) (found : List ℕ) (n : ℕ) → AreAllReached elf found → length found < n → ¬ ReachesSoMany elf n
+pub reaches_no_more : (elf : Elf) (found : List ℕ) (n : ℕ) → AreAllReached elf found → length found < n → ¬ ReachesAtLeast elf n
 reaches_no_more elf found n all few (xs, size, apart, reached) =
     let fits = length-le_from_is_member nat_eq_equiv xs found apart
     (λ q m. member found q (all.every q (All-contains (Reached elf) xs q reached (Contains-list_any nat_eq exact_unsigned_eq xs q m)))) in

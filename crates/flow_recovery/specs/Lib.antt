@@ -3,3 +3,4 @@ pub mod Flows
 pub mod Graphs
 pub mod Reaching
 pub mod Refusals
+pub mod Search

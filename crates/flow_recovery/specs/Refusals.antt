@@ -11,10 +11,10 @@ abbrev pub word_limit : ℕ
 word_limit = 262144
 
 -- at least n words are reached
-abbrev pub ReachesSoMany : Elf → ℕ → Type 0
-ReachesSoMany elf n = (xs : List ℕ) × (length xs ≡ n) × IsDistinct nat_eq xs × All (Reached elf) xs
+abbrev pub ReachesAtLeast : Elf → ℕ → Type 0
+ReachesAtLeast elf n = (xs : List ℕ) × (length xs ≡ n) × IsDistinct nat_eq xs × All (Reached elf) xs
 
 -- what an error says of the executable
 abbrev pub IsRefused : Elf → FlowErr → Type 0
-IsRefused elf (TooManyWords count) = (count ≡ word_limit + 1) × ReachesSoMany elf (word_limit + 1)
+IsRefused elf (TooManyWords count) = (count ≡ word_limit + 1) × ReachesAtLeast elf (word_limit + 1)
 IsRefused elf OutOfMemory = Unit {0}

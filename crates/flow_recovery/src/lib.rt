@@ -8,6 +8,7 @@
 
 pub mod code;
 pub mod flow;
+pub mod laws;
 mod listing;
 mod reaching;
 pub mod recovery;

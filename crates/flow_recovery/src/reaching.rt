@@ -2,7 +2,8 @@ ghost use Rattle.std.specs.Prelude.{◌≡◌, ◌↔◌, ◌⊎◌, ◌<◌, �
 ghost use Rattle.elf_image.specs.Layout.{IsLoadable};
 ghost use Rattle.flow_recovery.specs.Code.{IsCode};
 ghost use Rattle.flow_recovery.specs.Flows.{before, flow_at, pair_at, successors};
-ghost use Rattle.flow_recovery.specs.Reaching.{Reached, AreAllReached, HasCodeOf, Grows, AreReached, IsVisited};
+ghost use Rattle.flow_recovery.specs.Reaching.{Reached, AreAllReached};
+ghost use Rattle.flow_recovery.specs.Search.{HasCodeOf, Grows, AreReached, IsVisited};
 ghost use Rattle.flow_recovery.specs.Refusals.{IsRefused, word_limit};
 
 use crate::code::word_at;

@@ -1,7 +1,7 @@
 ghost use Rattle.std.specs.Prelude.{◌+◌, IfOk, IfErr, OnOk};
 ghost use Rattle.elf_image.specs.Layout.{IsLoadable};
 ghost use Rattle.flow_recovery.specs.Graphs.{IsGraph};
-ghost use Rattle.flow_recovery.specs.Refusals.{IsRefused, ReachesSoMany, word_limit};
+ghost use Rattle.flow_recovery.specs.Refusals.{IsRefused, ReachesAtLeast, word_limit};
 
 use crate::listing::{in_order, start_words, words_at};
 use crate::reaching::reach;
@@ -14,7 +14,7 @@ use std::alloc::Global;
 pub fn recover(alloc: Global, elf: &Elf) -> Result<Graph, FlowErr>
     requires { IsLoadable elf.now }
     ensures graph { IfOk result (IsGraph elf.now) }
-    ensures few { OnOk result (¬ ReachesSoMany elf.now (word_limit + 1)) }
+    ensures few { OnOk result (¬ ReachesAtLeast elf.now (word_limit + 1)) }
     ensures refused { IfErr result (IsRefused elf.now) }
 {
     let found = reach(alloc, elf)?;

@@ -1,6 +1,6 @@
 use Rattle.std.proofs.Common.{ℕ, ◌-◌, ◌≤◌, take, length, Contains}
 use Rattle.flow_recovery.specs.Code.{IsCode}
-use Rattle.flow_recovery.specs.Reaching.{AreReached}
+use Rattle.flow_recovery.specs.Search.{AreReached}
 use Rattle.flow_recovery.proofs.Closure.{LeadTo}
 use Rattle.flow_recovery.proofs.reaching.reach.Given as goal
 
