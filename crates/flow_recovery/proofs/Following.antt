@@ -1,5 +1,5 @@
 -- What a word leads to, alone and as the second of a pair.
-use Rattle.std.proofs.Common.{◌≡◌, ℕ, ◌+◌, ◌-◌, ◌%◌, ◌^◌, ◌<◌, ◌⊎◌, inl, inr, ◌==◌, Bool, true, false, if◌then◌else◌, List, [], ◌∷◌, Option, Some, None, All, Contains, ap, sym, subst, ◌∙◌, arith}
+use Rattle.std.proofs.Common.{◌≡◌, ℕ, ◌^◌, ◌<◌, ◌⊎◌, inl, inr, ◌==◌, Bool, true, false, if◌then◌else◌, List, [], ◌∷◌, Option, Some, None, Contains, ap, sym, subst, ◌∙◌, arith}
 use Rattle.std.proofs.lemmas.List.Elements.{All-contains, Contains-append_left}
 use Rattle.elf_image.specs.declared.image.Elf.{Elf}
 use Rattle.rv64_decode.specs.Row.{next_pc}
@@ -7,7 +7,6 @@ use Rattle.rv64_decode.specs.declared.instr.Instr.{Instr}
 use Rattle.rv64_decode.specs.declared.instr.Instr.TheVariants.{Jalr}
 use Rattle.flow_recovery.specs.Code.{IsCode, word_at}
 use Rattle.flow_recovery.specs.Flows.{before, asks_exit, instr_of, flow_by, flow_of, flow_from, flow_at, pair_at, successors}
-use Rattle.flow_recovery.specs.declared.flow.Flow.{Flow}
 use Rattle.flow_recovery.specs.declared.flow.Flow.TheVariants.{Stop, On, Jump, Call}
 use Rattle.flow_recovery.specs.Reaching.{Reached, alone, paired}
 use Rattle.flow_recovery.specs.Search.{AreReached}

@@ -1,8 +1,7 @@
 -- An executable has one graph.
-use Rattle.std.proofs.Common.{◌≡◌, ◌↔◌, ◌⊎◌, inl, inr, ℕ, zero, suc, ◌<◌, ◌≤◌, List, [], ◌∷◌, ◌++◌, length, map, get_or, Some, All, Contains, refl, sym, ap, subst, ◌∙◌, arith}
+use Rattle.std.proofs.Common.{◌≡◌, ◌⊎◌, inl, inr, ℕ, zero, suc, ◌<◌, List, [], ◌∷◌, length, get_or, All, Contains, refl, sym, ap, subst, ◌∙◌, arith}
 use Rattle.std.specs.List.{AllPairs}
-use Rattle.std.specs.List.Sorted.{IsStrictlyIncreasing}
-use Rattle.std.proofs.lemmas.List.Elements.{All-head, All-tail, Contains-append_cases, Contains-append_right, Contains-get_or}
+use Rattle.std.proofs.lemmas.List.Elements.{All-head, All-tail, Contains-append_right, Contains-get_or}
 use Rattle.std.proofs.lemmas.List.Kept.{AllPairs-from_increasing}
 use Rattle.std.proofs.lemmas.Option.{same_Some}
 use Rattle.elf_image.specs.declared.image.Elf.{Elf}
@@ -90,8 +89,8 @@ same_graphs elf g h p q =
     let gs = addresses_of g.words in
     let hs = addresses_of h.words in
     let at = same_lists gs hs (AllPairs-from_increasing gs p.ordered) (AllPairs-from_increasing hs q.ordered)
-        (λ a m. (q.reached a).1 ((p.reached a).0 m)) (λ a m. (p.reached a).1 ((q.reached a).0 m)) in
+    (λ a m. (q.reached a).1 ((p.reached a).0 m)) (λ a m. (p.reached a).1 ((q.reached a).0 m)) in
     let words = same_words elf g.words h.words p.words q.words at in
     let starts = same_lists g.starts h.starts (AllPairs-from_increasing g.starts p.starts_ordered) (AllPairs-from_increasing h.starts q.starts_ordered)
-        (λ a m. (q.starts a).1 ((p.starts a).0 m)) (λ a m. (p.starts a).1 ((q.starts a).0 m)) in
+    (λ a m. (q.starts a).1 ((p.starts a).0 m)) (λ a m. (p.starts a).1 ((q.starts a).0 m)) in
     λ j. record { words = words j; starts = starts j }

@@ -1,12 +1,11 @@
 -- Where a word of code leads, as far as it and the word before it tell (RISC-V unprivileged manual,
 -- "Unconditional Jumps" and "Conditional Branches" of RV32I).
-use Rattle.std.specs.Prelude.{ℕ, ◌==◌, ◌+◌, ◌-◌, ◌/◌, ◌%◌, ◌^◌, Bool, false, ◌&&◌, ◌||◌, not, if◌then◌else◌, List, [], ◌∷◌, Option, Some, None, ℤ, pos}
+use Rattle.std.specs.Prelude.{ℕ, ◌==◌, ◌+◌, ◌-◌, ◌/◌, ◌%◌, ◌^◌, Bool, false, ◌&&◌, ◌||◌, not, if◌then◌else◌, List, [], ◌∷◌, Option, Some, None}
 use Rattle.rv64_decode.specs.Table.{decoded}
 use Rattle.rv64_decode.specs.Row.{shifted, next_pc}
-use Rattle.rv64_decode.specs.declared.instr.UpperOp.{UpperOp}
-use Rattle.rv64_decode.specs.declared.instr.UpperOp.TheVariants.{Lui, Auipc}
+use Rattle.rv64_decode.specs.declared.instr.UpperOp.TheVariants.{Auipc}
 use Rattle.rv64_decode.specs.declared.instr.Instr.{Instr}
-use Rattle.rv64_decode.specs.declared.instr.Instr.TheVariants.{Alu, AluImm, Upper, Load, Store, Branch, Jal, Jalr, Fence, Ecall, Ebreak}
+use Rattle.rv64_decode.specs.declared.instr.Instr.TheVariants.{Upper, Branch, Jal, Jalr, Ecall, Ebreak}
 use Rattle.elf_image.specs.declared.image.Elf.{Elf}
 use Rattle.flow_recovery.specs.Code.{word_at}
 use Rattle.flow_recovery.specs.declared.flow.Flow.{Flow}

@@ -6,5 +6,4 @@ ghost use Rattle.flow_recovery.specs.Graphs.{IsGraph};
 /// An executable has one graph.
 pub fn one_graph()
     ensures { (elf : Elf) (g h : Graph) → IsGraph elf g → IsGraph elf h → g ≡ h }
-{
-}
+{}

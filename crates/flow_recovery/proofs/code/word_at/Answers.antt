@@ -1,6 +1,5 @@
-use Rattle.std.proofs.Common.{◌≡◌, ◌+◌, ◌≤◌, arith}
-use Rattle.elf_image.specs.Layout.{LieFrom, load_end}
-use Rattle.flow_recovery.proofs.Segments.{IsLow, low_at}
+use Rattle.elf_image.specs.Layout.{LieFrom}
+use Rattle.flow_recovery.proofs.Segments.{low_at}
 use Rattle.flow_recovery.proofs.code.word_at.Goals as goal
 
 pub is_code_of-requires : goal.is_code_of-requires

@@ -1,5 +1,4 @@
-use Rattle.std.proofs.Common.{◌≡◌, ◌∙◌, List, ℕ, nat_eq, subst, sym}
-use Rattle.std.specs.List.{IsDistinct}
+use Rattle.std.proofs.Common.{◌∙◌, subst}
 use Rattle.std.specs.List.Sorted.{IsPermutation}
 use Rattle.flow_recovery.proofs.Listed.{increasing, same_members}
 use Rattle.flow_recovery.proofs.listing.in_order.Goals as goal

@@ -1,8 +1,7 @@
-use Rattle.std.proofs.Common.{◌≡◌, ◌∙◌, ℕ, nat_eq, subst, sym, arith}
-use Rattle.std.specs.List.{dedup}
+use Rattle.std.proofs.Common.{nat_eq, subst, sym, arith}
 use Rattle.std.proofs.lemmas.List.Filters.{dedup_is}
 use Rattle.flow_recovery.specs.Reaching.{AreAllReached}
-use Rattle.flow_recovery.proofs.Listed.{StartsFrom-none, StartsFrom-turn, StartsFrom-all, once_members, once_increasing}
+use Rattle.flow_recovery.proofs.Listed.{StartsFrom-turn, StartsFrom-all, once_members, once_increasing}
 use Rattle.flow_recovery.proofs.listing.start_words.Goals as goal
 
 pub loop-at-preserved : goal.loop-at-preserved

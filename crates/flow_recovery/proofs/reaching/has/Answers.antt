@@ -1,4 +1,3 @@
-use Rattle.std.proofs.Common.{sym}
 use Rattle.std.specs.Cmp.{nat_eq_equiv}
 use Rattle.std.proofs.lemmas.Map.Views.{hash_set_contains_iff, exact_unsigned_eq}
 use Rattle.flow_recovery.proofs.reaching.has.Goals as goal

@@ -1,4 +1,4 @@
-use Rattle.std.proofs.Common.{ℕ, ◌-◌, ◌≤◌, take, length, Contains}
+use Rattle.std.proofs.Common.{◌-◌, ◌≤◌, take, length, Contains}
 use Rattle.flow_recovery.specs.Code.{IsCode}
 use Rattle.flow_recovery.specs.Search.{AreReached}
 use Rattle.flow_recovery.proofs.Closure.{LeadTo}
