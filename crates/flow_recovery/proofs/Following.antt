@@ -6,7 +6,7 @@ use Rattle.rv64_decode.specs.Row.{next_pc}
 use Rattle.rv64_decode.specs.declared.instr.Instr.{Instr}
 use Rattle.rv64_decode.specs.declared.instr.Instr.TheVariants.{Jalr}
 use Rattle.flow_recovery.specs.Code.{IsCode, word_at}
-use Rattle.flow_recovery.specs.Flows.{before, asks_exit, instr_of, flow_by, flow_of, flow_from, flow_at, pair_at, successors}
+use Rattle.flow_recovery.specs.Flows.{before, asks_exit, instr_of, instr_at, flow_by, flow_of, flow_from, flow_at, pair_at, successors}
 use Rattle.flow_recovery.specs.declared.flow.Flow.TheVariants.{Stop, On, Jump, Call}
 use Rattle.flow_recovery.specs.Reaching.{Reached, alone, paired}
 use Rattle.flow_recovery.specs.Search.{AreReached}
@@ -61,4 +61,4 @@ wider_from (Some w) at ends pair b m = wider_of (instr_of w) w at ends pair b m
 
 pub wider : (elf : Elf) (a : ℕ) (pair : Option ℕ) (b : ℕ) → Contains (successors a (flow_at elf None a)) b → Contains (successors a (flow_at elf pair a)) b
 unfolding flow_at
-wider elf a pair b m = wider_from (word_at elf a) a (asks_exit (word_at elf (before a))) pair b m
+wider elf a pair b m = wider_from (word_at elf a) a (asks_exit (instr_at elf (before a))) pair b m

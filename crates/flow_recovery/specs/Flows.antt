@@ -1,11 +1,13 @@
 -- Where a word of code leads, as far as it and the word before it tell (RISC-V unprivileged manual,
 -- "Unconditional Jumps" and "Conditional Branches" of RV32I).
-use Rattle.std.specs.Prelude.{ℕ, ◌==◌, ◌+◌, ◌-◌, ◌/◌, ◌%◌, ◌^◌, Bool, false, ◌&&◌, ◌||◌, not, if◌then◌else◌, List, [], ◌∷◌, Option, Some, None}
+use Rattle.std.specs.Prelude.{ℕ, ◌==◌, ◌+◌, ◌-◌, ◌/◌, ◌%◌, ◌^◌, Bool, false, ◌&&◌, ◌||◌, not, if◌then◌else◌, List, [], ◌∷◌, Option, Some, None, pos}
+use Rattle.std.specs.Ordering.{int_eq}
 use Rattle.rv64_decode.specs.Table.{decoded}
 use Rattle.rv64_decode.specs.Row.{shifted, next_pc}
+use Rattle.rv64_decode.specs.declared.instr.ImmOp.TheVariants.{Addi}
 use Rattle.rv64_decode.specs.declared.instr.UpperOp.TheVariants.{Auipc}
 use Rattle.rv64_decode.specs.declared.instr.Instr.{Instr}
-use Rattle.rv64_decode.specs.declared.instr.Instr.TheVariants.{Upper, Branch, Jal, Jalr, Ecall, Ebreak}
+use Rattle.rv64_decode.specs.declared.instr.Instr.TheVariants.{AluImm, Upper, Branch, Jal, Jalr, Ecall, Ebreak}
 use Rattle.elf_image.specs.declared.image.Elf.{Elf}
 use Rattle.flow_recovery.specs.Code.{word_at}
 use Rattle.flow_recovery.specs.declared.flow.Flow.{Flow}
@@ -19,10 +21,18 @@ before at = (at + (2 ^ 64 - 4)) % 2 ^ 64
 unfoldable pub instr_of : ℕ → Option Instr
 instr_of w = decoded w
 
--- the word is `addi a7, x0, 93` or `addi a7, x0, 94`: the next ecall is exit or exit_group
-abbrev pub asks_exit : Option ℕ → Bool
-asks_exit None = false
-asks_exit (Some w) = w == 0x05D0_0893 || w == 0x05E0_0893
+-- the instruction at an address
+abbrev pub instr_from : Option ℕ → Option Instr
+instr_from None = None
+instr_from (Some w) = instr_of w
+
+unfoldable pub instr_at : Elf → ℕ → Option Instr
+instr_at elf at = instr_from (word_at elf at)
+
+-- the instruction is `addi a7, x0, 93` or `addi a7, x0, 94`: the next ecall is exit or exit_group
+abbrev pub asks_exit : Option Instr → Bool
+asks_exit (Some (AluImm Addi rd rs1 imm)) = rd == 17 && rs1 == 0 && (int_eq imm (pos 93) || int_eq imm (pos 94))
+asks_exit _ = false
 
 -- where an instruction leads. `ends` says that an ecall ends the program, and `pair` is the target of
 -- a jalr that is known from an auipc before it
@@ -51,7 +61,7 @@ flow_from (Some w) at ends pair = flow_of (instr_of w) w at ends pair
 
 -- where the word at an address leads, with what is known of a pair that it ends
 unfoldable pub flow_at : Elf → Option ℕ → ℕ → Flow
-flow_at elf pair at = flow_from (word_at elf at) at (asks_exit (word_at elf (before at))) pair
+flow_at elf pair at = flow_from (word_at elf at) at (asks_exit (instr_at elf (before at))) pair
 
 -- the target of an auipc and a jalr on the register that the auipc writes, the jalr at the address: the
 -- sum of the auipc's address and both immediates, with bit 0 cleared
@@ -60,17 +70,13 @@ pair_by (Upper Auipc base high) (Jalr rd rs1 low) at =
     let target = shifted (shifted (before at) high) low in if base == rs1 then Some (target - target % 2) else None
 pair_by _ _ at = None
 
-abbrev pub instr_from : Option ℕ → Option Instr
-instr_from None = None
-instr_from (Some w) = instr_of w
-
 abbrev pub pair_of : Option Instr → Option Instr → ℕ → Option ℕ
 pair_of (Some first) (Some second) at = pair_by first second at
 pair_of _ _ at = None
 
 -- the target of the pair that ends at an address, if one does
 unfoldable pub pair_at : Elf → ℕ → Option ℕ
-pair_at elf at = pair_of (instr_from (word_at elf (before at))) (instr_from (word_at elf at)) at
+pair_at elf at = pair_of (instr_at elf (before at)) (instr_at elf at) at
 
 -- an address, and another if it is another one
 abbrev pub each_once : ℕ → ℕ → List ℕ

@@ -2,11 +2,11 @@ ghost use Rattle.std.specs.Prelude.{◌≡◌};
 ghost use Rattle.elf_image.specs.Layout.{IsLoadable};
 ghost use Rattle.rv64_decode.specs.Row.{shifted, next_pc};
 ghost use Rattle.flow_recovery.specs.Code.{word_at};
-ghost use Rattle.flow_recovery.specs.Flows.{before, instr_of, asks_exit, flow_by, flow_outside, flow_at, pair_by, pair_at};
+ghost use Rattle.flow_recovery.specs.Flows.{before, instr_of, instr_at, asks_exit, flow_by, flow_outside, flow_at, pair_by, pair_at};
 
 use crate::code::word_at;
 use elf_image::Elf;
-use rv64_decode::{Instr, UpperOp, decode};
+use rv64_decode::{ImmOp, Instr, UpperOp, decode};
 
 /// Where a word leads.
 #[derive(Clone, Copy, PartialEq, Eq, Debug)]
@@ -52,14 +52,34 @@ fn instr_of(word: u32) -> Option<Instr>
     decode(word)
 }
 
-// Whether a word is addi a7, x0, 93 or addi a7, x0, 94.
-fn asks_exit(word: Option<u32>) -> bool
-    ensures { result ≡ asks_exit word }
+// The instruction at an address.
+#[tactic(auto, unfolding(crate::specs::Flows::instr_at))]
+fn instr_at(elf: &Elf, at: u64) -> Option<Instr>
+    requires { IsLoadable elf.now }
+    ensures { result ≡ instr_at elf.now at }
 {
-    match word {
-        Some(w) => w == 0x05D0_0893 || w == 0x05E0_0893,
-        None => false,
+    match word_at(elf, at) {
+        Some(word) => instr_of(word),
+        None => None,
     }
+}
+
+// Whether an instruction is addi a7, x0, 93 or addi a7, x0, 94.
+fn asks_exit(instr: &Option<Instr>) -> bool
+    ensures { result ≡ asks_exit instr.now }
+{
+    let Some(
+        Instr::AluImm {
+            op: ImmOp::Addi,
+            rd,
+            rs1,
+            imm,
+        },
+    ) = *instr
+    else {
+        return false;
+    };
+    rd.number() == 17 && rs1.number() == 0 && (imm == 93 || imm == 94)
 }
 
 // Where an instruction leads.
@@ -109,7 +129,7 @@ pub(crate) fn flow_at(elf: &Elf, pair: Option<u64>, at: u64) -> Flow
         None => Flow::Stop,
         Some(word) => match instr_of(word) {
             None => flow_outside(word),
-            Some(instr) => flow_by(&instr, at, asks_exit(word_at(elf, before(at))), pair),
+            Some(instr) => flow_by(&instr, at, asks_exit(&instr_at(elf, before(at))), pair),
         },
     }
 }
@@ -142,7 +162,7 @@ pub(crate) fn pair_at(elf: &Elf, at: u64) -> Option<u64>
     requires { IsLoadable elf.now }
     ensures { result ≡ pair_at elf.now at }
 {
-    let second = instr_of(word_at(elf, at)?)?;
-    let first = instr_of(word_at(elf, before(at))?)?;
+    let second = instr_at(elf, at)?;
+    let first = instr_at(elf, before(at))?;
     pair_by(&first, &second, at)
 }
