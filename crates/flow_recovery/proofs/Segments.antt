@@ -1,9 +1,9 @@
 -- The segments of an executable that was read, one by one.
-use Rattle.std.proofs.Common.{◌≡◌, ℕ, zero, suc, ◌+◌, ◌%◌, ◌==◌, ◌^◌, ◌<◌, ◌≤◌, Bool, true, false, IsTrue, ◌&&◌, nat_le, nat_lt, if◌then◌else◌, List, [], ◌∷◌, length, get_or, Some, None, is_some, refl, arith}
-use Rattle.std.proofs.lemmas.Bool.{false≢true, and_parts, ltb-true}
+use Rattle.std.proofs.Common.{◌≡◌, ℕ, zero, suc, ◌+◌, ◌%◌, ◌==◌, ◌^◌, ◌<◌, ◌≤◌, Bool, true, false, IsTrue, ◌&&◌, nat_le, nat_lt, if◌then◌else◌, List, [], ◌∷◌, length, get_or, Some, None, is_some, refl, sym, ◌∙◌, ◌||◌, arith}
+use Rattle.std.proofs.lemmas.Bool.{false≢true, and_parts, ltb-true, eqb-true, eq-eqb}
 use Rattle.elf_image.specs.declared.image.Elf.{Elf}
 use Rattle.elf_image.specs.declared.image.Segment.{Segment}
-use Rattle.elf_image.specs.Layout.{LieFrom, is_executable, rounded_low, rounded_end, load_end}
+use Rattle.elf_image.specs.Layout.{in_code, IsLoadable, LieFrom, is_executable, rounded_low, rounded_end, load_end}
 use Rattle.flow_recovery.specs.Code.{is_code_of, word_in, word_of, word_at, IsCode}
 
 -- a segment ends below the end of loads
@@ -39,3 +39,35 @@ code_below elf addr lie h = by (addr % 4 == 0) h
     by : (b : Bool) → IsTrue (is_some (if b then word_of elf.segments addr else None)) → addr < 2 ^ 64
     by true k = word_below 0 elf.segments addr lie k
     by false k = absurd (false≢true k)
+
+-- there is a word at an address exactly where it lies in an executable segment
+is_some-word_of : (segments : List Segment) (addr : ℕ) → is_some (word_of segments addr) ≡ in_code segments addr
+is_some-word_of [] addr = refl
+is_some-word_of (s ∷ rest) addr = by (is_code_of s addr) (is_some-word_of rest addr)
+  where
+    by : (b : Bool) → is_some (word_of rest addr) ≡ in_code rest addr → is_some (if b then Some (word_in s addr) else word_of rest addr) ≡ (b || in_code rest addr)
+    by true e = refl
+    by false e = e
+
+-- code lies at multiples of 4 in executable segments
+is_code_parts : (elf : Elf) (addr : ℕ) → IsCode elf addr → (addr % 4 ≡ 0) × (in_code elf.segments addr ≡ true)
+unfolding word_at
+is_code_parts elf addr h = by (addr % 4 == 0) refl h
+  where
+    by : (b : Bool) → (addr % 4 == 0) ≡ b → IsTrue (is_some (if b then word_of elf.segments addr else None)) → (addr % 4 ≡ 0) × (in_code elf.segments addr ≡ true)
+    by true e k = (eqb-true (addr % 4) 0 e, sym (is_some-word_of elf.segments addr) ∙ k)
+    by false e k = absurd (false≢true k)
+
+pub code_aligned : (elf : Elf) (addr : ℕ) → IsCode elf addr → addr % 4 ≡ 0
+code_aligned elf addr h = (is_code_parts elf addr h).0
+
+pub code_within : (elf : Elf) (addr : ℕ) → IsCode elf addr → in_code elf.segments addr ≡ true
+code_within elf addr h = (is_code_parts elf addr h).1
+
+pub entry_is_code : (elf : Elf) → IsLoadable elf → IsCode elf elf.entry
+unfolding word_at
+entry_is_code elf loadable = by (elf.entry % 4 == 0) (eq-eqb (elf.entry % 4) 0 loadable.aligned)
+  where
+    by : (b : Bool) → b ≡ true → IsTrue (is_some (if b then word_of elf.segments elf.entry else None))
+    by true e = is_some-word_of elf.segments elf.entry ∙ loadable.entry
+    by false e = absurd (false≢true e)

@@ -1,7 +1,16 @@
-ghost use Rattle.std.specs.Prelude.{◌≡◌};
+ghost use Rattle.std.specs.Prelude.{◌≡◌, ◌%◌, ℕ, true};
+ghost use Rattle.elf_image.specs.Layout.{IsLoadable, in_code};
 ghost use Rattle.elf_image.specs.declared.image.Elf.{Elf};
 ghost use Rattle.loop_data.specs.declared.graph.Graph.{Graph};
 ghost use Rattle.flow_recovery.specs.Graphs.{IsGraph};
+ghost use Rattle.flow_recovery.specs.Reaching.{Reached};
+
+/// Only aligned words of executable segments are reached, and the entry is one.
+pub fn reached_words()
+    ensures aligned { (elf : Elf) (a : ℕ) → Reached elf a → a % 4 ≡ 0 }
+    ensures code { (elf : Elf) (a : ℕ) → Reached elf a → in_code elf.segments a ≡ true }
+    ensures entry { (elf : Elf) → IsLoadable elf → Reached elf elf.entry }
+{}
 
 /// An executable has one graph.
 pub fn one_graph()
