@@ -14,7 +14,7 @@ use Rattle.rewrite_cli.specs.Texts.{report_of, IsReportPart}
 use Rattle.rewrite_cli.specs.declared.counts.Counts.{Counts}
 use Rattle.rewrite_cli.specs.declared.status.Reason.TheVariants.{LoadTooLong}
 use Rattle.rewrite_cli.specs.declared.status.Status.{Status}
-use Rattle.rewrite_cli.specs.declared.status.Status.TheVariants.{Exited, Faulted, Refused, Usage, OutOfMemory, WriteFault}
+use Rattle.rewrite_cli.specs.declared.status.Status.TheVariants.{Exited, Faulted, Refused, Usage, OutOfMemory, WriteFault, StoreFault, ReadFault}
 use Rattle.rewrite_cli.specs.Words.{Command, Run, Rewrite, command_of}
 
 pub content_too_long : (content : Option (List ℕ)) (act : List ℕ → Effect) (input : List ℕ) → PassesLimit content load_limit → of_content act input content ≡ only (Refused (LoadTooLong load_limit)) input
@@ -91,6 +91,19 @@ reported_as answer status counts before text written (inr e) w t h = absurd (w e
 pub nothing_reported : (before : List ℕ) (e : Effect) (written : Option (List ℕ)) → written ≡ Some before → IsPartOfReport before e written
 nothing_reported before e written h =
     record { replaced = WriteFault; counts = no_counts; is = inl refl; count = 0; are = h ∙ ap (λ (v : List ℕ). Some v) (sym (append-nil before)) }
+
+neither : (A B : Type 0) → A ⊎ B → ¬ A → ¬ B → ⊥
+neither A B (inl a) na nb = na a
+neither A B (inr b) na nb = nb b
+
+-- where nothing outside fails, the answer is the one that was to be given, or that to want of memory
+pub answered_by : (answer status : Status) (store missing input output report : Type 0) → (is_from_outside answer ≡ false → answer ≡ status) → (answer ≡ StoreFault → store ⊎ missing)
+    → (answer ≡ ReadFault → input) → (answer ≡ WriteFault → output ⊎ report) → ¬ store → ¬ input → ¬ output → ¬ report → ¬ missing → (answer ≡ status) ⊎ (answer ≡ OutOfMemory)
+answered_by StoreFault status store missing input output report same s r w a b c d e = absurd (neither store missing (s refl) a e)
+answered_by ReadFault status store missing input output report same s r w a b c d e = absurd (b (r refl))
+answered_by WriteFault status store missing input output report same s r w a b c d e = absurd (neither output report (w refl) c d)
+answered_by OutOfMemory status store missing input output report same s r w a b c d e = inr refl
+answered_by _ status store missing input output report same s r w a b c d e = inl (same refl)
 
 -- ---- files
 

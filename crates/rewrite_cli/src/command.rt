@@ -106,6 +106,9 @@ pub fn command<R: Threads + Sync, S: Store, I: Source, O: Sink, P: Sink, G: Gate
     ensures read_fault { result ≡ Status.ReadFault → Rose (I.faults input.old) (I.faults input.new) }
     ensures write_fault { result ≡ Status.WriteFault → Rose (O.faults out.old) (O.faults out.new) ⊎ Rose (P.faults report.old) (P.faults report.new) }
 
+    // A command is answered as it is defined, or for want of memory, where nothing outside fails.
+    ensures answered { (m : Files) (xs : List ℕ) → S.files store.old ≡ Some m → I.rest input.old ≡ Some xs → ¬ Rose (S.faults store.old) (S.faults store.new) → ¬ Rose (I.faults input.old) (I.faults input.new) → ¬ Rose (O.faults out.old) (O.faults out.new) → ¬ Rose (P.faults report.old) (P.faults report.new) → ¬ LacksFile (command_of (map string_bytes words.now)) (S.files store.old) → (result ≡ (effect_of (map string_bytes words.now) m xs).status) ⊎ (result ≡ Status.OutOfMemory) }
+
     // What is saved, and what stays.
     ensures saved { (m : Files) (xs : List ℕ) → S.files store.old ≡ Some m → TellsInput (command_of (map string_bytes words.now)) (I.rest input.old) xs → is_from_outside result ≡ false → AreSaved m (S.files store.new) (effect_of (map string_bytes words.now) m xs).saved }
     ensures others_stay { (m : Files) → S.files store.old ≡ Some m → OthersStay m (S.files store.new) (command_of (map string_bytes words.now)) }

@@ -4,7 +4,7 @@ use Rattle.rewrite_cli.specs.Effect.{Effect, only}
 use Rattle.rewrite_cli.specs.Counts.{no_counts}
 use Rattle.rewrite_cli.specs.declared.status.Status.TheVariants.{Usage}
 use Rattle.rewrite_cli.specs.Texts.{report_of}
-use Rattle.rewrite_cli.proofs.Effects.{effect_run, effect_none, nothing_written, report_part}
+use Rattle.rewrite_cli.proofs.Effects.{effect_run, effect_none, nothing_written, report_part, answered_by}
 use Rattle.rewrite_cli.proofs.command.command.Goals as goal
 
 pub returns-in-Unknown-clause-output_so_far : goal.returns-in-Unknown-clause-output_so_far
@@ -19,6 +19,11 @@ pub returns-in-Run-clause-answer : goal.returns-in-Run-clause-answer
 returns-in-Run-clause-answer g c = λ m xs files rest f.
     let run = sym c.command_from.ensures ∙ ap command_shown c.in-Run.is in
     c.run_command.ensures.answer m xs files rest f ∙ ap (λ (e : Effect). e.status) (sym (effect_run (map string_bytes c.args.words.now) m xs _ _ _ run))
+
+pub returns-in-Run-clause-answered : goal.returns-in-Run-clause-answered
+returns-in-Run-clause-answered g c = λ m xs files rest store input output report missing.
+    let run = sym c.command_from.ensures ∙ ap command_shown c.in-Run.is in
+    answered_by _ _ _ _ _ _ _ (returns-in-Run-clause-answer g c m xs files rest) c.run_command.ensures.store_fault c.run_command.ensures.read_fault c.run_command.ensures.write_fault store input output report (rw run at missing)
 
 pub returns-in-Run-clause-output : goal.returns-in-Run-clause-output
 returns-in-Run-clause-output g c = λ m xs ys files rest f h.
