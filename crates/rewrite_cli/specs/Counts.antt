@@ -1,10 +1,16 @@
 -- What a report counts.
 use Rattle.std.specs.Prelude.{ℕ}
 use Rattle.rewrite_cli.specs.declared.counts.Counts.{Counts}
+use Rattle.rewrite_cli.specs.declared.counts.Counts.TheVariants.{Steps, Nothing}
 
 -- the instructions of a run
 abbrev pub of_steps : ℕ → Counts
-of_steps steps = record { steps = steps; entries = 0; words = 0 }
+of_steps steps = Steps steps
 
 abbrev pub no_counts : Counts
-no_counts = of_steps 0
+no_counts = Nothing
+
+-- how many instructions were executed
+abbrev pub steps_of : Counts → ℕ
+steps_of (Steps steps) = steps
+steps_of _ = 0

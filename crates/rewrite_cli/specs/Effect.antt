@@ -19,6 +19,7 @@ use Rattle.rewrite_cli.specs.Counts.{of_steps, no_counts}
 use Rattle.rewrite_cli.specs.Refusals.{refusal_of}
 use Rattle.rewrite_cli.specs.Texts.{report_of}
 use Rattle.rewrite_cli.specs.declared.counts.Counts.{Counts}
+use Rattle.rewrite_cli.specs.declared.counts.Counts.TheVariants.{Image}
 use Rattle.rewrite_cli.specs.declared.status.Reason.TheVariants.{LoadTooLong, BadMark, Altered}
 use Rattle.rewrite_cli.specs.declared.status.Status.{Status}
 use Rattle.rewrite_cli.specs.declared.status.Status.TheVariants.{Done, Exited, Faulted, Spent, Usage, Refused, StoreFault, ReadFault, WriteFault, OutOfMemory}
@@ -97,7 +98,7 @@ run_of fuel dump input bytes = of_admission fuel dump input (admission_of bytes)
 -- ---- rewriting
 
 abbrev pub counts_of : Rewritten → Counts
-counts_of made = record { steps = 0; entries = made.entries; words = made.words }
+counts_of made = Image made.entries made.words
 
 abbrev pub of_rewriting : List ℕ → List ℕ → Result Rewritten ElfErr → Effect
 of_rewriting new input (Ok made) =

@@ -7,7 +7,9 @@ use Rattle.rv64_decode.specs.declared.outcome.Fault.{Fault}
 use Rattle.rv64_decode.specs.declared.outcome.Fault.TheVariants.{Fetch, Illegal, Break, Target, Load as LoadFault, Store as StoreRefused}
 use Rattle.rewrite_cli.specs.Refusals.{reason_text}
 use Rattle.rewrite_cli.specs.declared.status.Status.{Status}
+use Rattle.rewrite_cli.specs.Counts.{steps_of}
 use Rattle.rewrite_cli.specs.declared.counts.Counts.{Counts}
+use Rattle.rewrite_cli.specs.declared.counts.Counts.TheVariants.{Image}
 use Rattle.rewrite_cli.specs.declared.status.Status.TheVariants.{Done, Exited, Faulted, Spent, Usage, Refused, StoreFault, ReadFault, WriteFault, OutOfMemory}
 
 -- a line
@@ -39,12 +41,17 @@ usage_text = codes "usage: list FILE | rewrite FILE NEW | run FILE HARTS [FUEL [
 abbrev pub count_lines : ℕ → List ℕ
 count_lines steps = line (codes "hart 0 instructions " ++ decimal steps) ++ line (codes "steps " ++ decimal steps)
 
+-- what is said of what a command has made
+abbrev pub done_text : Counts → List ℕ
+done_text (Image entries words) = line (codes "rewritten entries " ++ (decimal entries ++ (codes " words " ++ decimal words)))
+done_text _ = []
+
 -- the report of an answer
 abbrev pub report_of : Counts → Status → List ℕ
-report_of counts Done = line (codes "rewritten entries " ++ (decimal counts.entries ++ (codes " words " ++ decimal counts.words)))
-report_of counts (Exited code) = count_lines counts.steps ++ line (codes "exit " ++ decimal code)
+report_of counts Done = done_text counts
+report_of counts (Exited code) = count_lines (steps_of counts) ++ line (codes "exit " ++ decimal code)
 report_of counts (Faulted kind pc addr) =
-    count_lines counts.steps
+    count_lines (steps_of counts)
     ++ line (codes "fault " ++ (fault_text kind ++ (codes " pc 0x" ++ (hex16 pc ++ (codes " addr 0x" ++ hex16 addr)))))
 report_of counts Spent = line (codes "spent")
 report_of counts Usage = line usage_text

@@ -1,29 +1,28 @@
 ghost use Rattle.std.specs.Prelude.{◌≡◌};
-ghost use Rattle.rewrite_cli.specs.Counts.{of_steps};
+ghost use Rattle.rewrite_cli.specs.Counts.{steps_of};
 
-/// What a report counts. What a command does not count is 0.
+/// What a report counts.
 #[derive(Clone, Copy, PartialEq, Eq, Debug)]
-pub struct Counts {
-    /// The instructions that were executed.
-    pub steps: u64,
-    /// The loops that are divided in an image.
-    pub entries: u32,
-    /// The words that an image adds.
-    pub words: u32,
+pub enum Counts {
+    /// The instructions that a run has executed.
+    Steps(u64),
+    /// What an image adds to its original: the loops that are divided, and the words of code.
+    Image { entries: u32, words: u32 },
+    /// Nothing is counted.
+    Nothing,
 }
 
 /// Nothing is counted.
-pub const NO_COUNTS: Counts = Counts {
-    steps: 0,
-    entries: 0,
-    words: 0,
-};
+pub const NO_COUNTS: Counts = Counts::Nothing;
 
 impl Counts {
-    /// So many instructions.
-    pub fn of_run(steps: u64) -> Counts
-        ensures { result ≡ of_steps steps }
+    /// The number of instructions, which is 0 where none are counted.
+    pub fn steps(&self) -> u64
+        ensures { result ≡ steps_of self.now }
     {
-        Counts { steps, ..NO_COUNTS }
+        match *self {
+            Counts::Steps(steps) => steps,
+            _ => 0,
+        }
     }
 }

@@ -1,7 +1,7 @@
 ghost use Rattle.std.specs.Prelude.{◌≡◌, ◌+◌, ◌-◌, ◌<◌, ◌≤◌, ◌++◌, ◌⊎◌, ◌≢◌, ℕ, List, Some, take, string_bytes, codes, decimal, IfOk, OnOk, OnErr};
 ghost use Rattle.outside_ports.specs.Ports.{Rose};
 ghost use Rattle.rewrite_cli.specs.Counts.{of_steps};
-ghost use Rattle.rewrite_cli.specs.Texts.{report_of, fault_text, why_text, count_lines, line, IsReportPart};
+ghost use Rattle.rewrite_cli.specs.Texts.{report_of, done_text, fault_text, why_text, count_lines, line, IsReportPart};
 
 use crate::counts::Counts;
 use crate::refusals::refusal_line;
@@ -88,13 +88,23 @@ fn image_text(alloc: Global, entries: u32, words: u32) -> Result<String, AllocEr
     Ok(text)
 }
 
+// What is said of what a command has made.
+fn done_text(alloc: Global, counts: Counts) -> Result<String, AllocError>
+    ensures { IfOk result (λ s. string_bytes s ≡ done_text counts) }
+{
+    match counts {
+        Counts::Image { entries, words } => image_text(alloc, entries, words),
+        _ => Ok(String::new(alloc)),
+    }
+}
+
 /// The report of an answer.
 pub fn report_text(alloc: Global, status: &Status, counts: &Counts) -> Result<String, AllocError>
     ensures { IfOk result (λ s. string_bytes s ≡ report_of counts.now status.now) }
 {
-    let steps = counts.steps;
+    let steps = counts.steps();
     match *status {
-        Status::Done => image_text(alloc, counts.entries, counts.words),
+        Status::Done => done_text(alloc, *counts),
         Status::Exited(code) => exit_text(alloc, steps, code),
         Status::Faulted { kind, pc, addr } => fault_report(alloc, steps, kind, pc, addr),
         Status::Spent => String::from_str(alloc, "spent\n"),

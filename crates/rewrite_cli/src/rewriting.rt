@@ -47,8 +47,7 @@ fn load_rewritten<S: Store>(alloc: Global, store: &mut S, file: &str) -> Result<
 fn counts_from(made: &Rewritten) -> Counts
     ensures { result ≡ counts_of made.now }
 {
-    Counts {
-        steps: 0,
+    Counts::Image {
         entries: made.entries,
         words: made.words,
     }

@@ -104,7 +104,7 @@ fn run_elf<'a, I: Source, O: Sink>(
     match dump_under(alloc, dump, &status, &machine.memory) {
         Ok(dump) => RunEnd {
             status,
-            counts: Counts::of_run(ran.steps),
+            counts: Counts::Steps(ran.steps),
             dump,
         },
         Err(_) => RunEnd::only(Status::OutOfMemory),

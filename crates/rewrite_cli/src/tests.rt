@@ -449,7 +449,7 @@ fn fuel_ends_a_run(rt: HostRuntime) -> Result<(), Fail> {
         );
         assert!(rt; end.status == status, "fuel {fuel}");
         assert!(rt;
-            end.counts == Counts::of_run(fuel.min(9)),
+            end.counts == Counts::Steps(fuel.min(9)),
             "steps after {fuel}"
         );
         assert!(rt; at.out.bytes() == out.as_bytes(), "output after {fuel}");
@@ -467,18 +467,17 @@ fn answers_have_their_lines_and_numbers(rt: HostRuntime) -> Result<(), Fail> {
     let denied =
         "hart 0 instructions 18446744073709551615\nsteps 18446744073709551615\nfault load-denied pc 0xfedcba9876543210 addr 0xffffffffffffffff\n";
     let limit = 67_108_864;
-    let made = Counts {
-        steps: 7,
+    let made = Counts::Image {
         entries: u32::MAX,
         words: 717,
     };
     for (status, counts, text, number) in [
-        (Status::Spent, Counts::of_run(7), "spent\n", 121),
+        (Status::Spent, Counts::Steps(7), "spent\n", 121),
         (Status::OutOfMemory, NO_COUNTS, "out-of-memory\n", 128),
         (Status::WriteFault, NO_COUNTS, "", 127),
         (
             Status::Faulted { kind, pc, addr },
-            Counts::of_run(u64::MAX),
+            Counts::Steps(u64::MAX),
             denied,
             120,
         ),

@@ -162,14 +162,15 @@ fn other_files_are_refused(rt: HostRuntime) -> Result<(), Fail> {
 
 #[test]
 fn long_files_are_refused(rt: HostRuntime) -> Result<(), Fail> {
-    let zeros = vec![in rt.alloc(); 0u8; 84_934_657]?;
+    let mut zeros = vec![in rt.alloc(); 0u8; 84_934_657]?;
     for (length, report) in [
         (84_934_657, "refused load-too-long 84934656\n"),
         (84_934_656, "refused too-long 84934656\n"),
         (67_108_865, "refused too-long 67108865\n"),
         (67_108_864, "refused not-elf\n"),
     ] {
-        let mut at = prepared(rt.alloc(), &zeros[..length], "in", 200, NONE_FAILS)?;
+        zeros.truncate(length);
+        let mut at = prepared(rt.alloc(), zeros.as_slice(), "in", 200, NONE_FAILS)?;
         let status = answer_to(&rt, rt.alloc(), "run file 1", &mut at)?;
         assert!(rt; at.report.bytes() == report.as_bytes(), "not: {report}");
         assert!(rt; status.exit_number() == 124, "number at {report}");
