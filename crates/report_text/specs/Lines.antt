@@ -1,8 +1,8 @@
 -- The lines of a list of loops.
-use Rattle.std.specs.Prelude.{ℕ, ◌-◌, ◌^◌, false, List, [], ◌∷◌, ◌++◌, codes, Option, Some, None}
+use Rattle.std.specs.Prelude.{ℕ, ◌-◌, ◌^◌, false, List, [], ◌∷◌, ◌++◌, codes, Option, Some}
 use Rattle.std.specs.Fmt.{digits, padded_integral, format_spec}
 use Rattle.loop_data.specs.declared.verdict.Verdict.{Verdict}
-use Rattle.loop_data.specs.declared.verdict.Verdict.TheVariants.{MultiEntry, Limit, Call, System, Indirect, Unsupported, Shape, MixedCell, Carried, NoTrip, Irregular, Dependence, Parallel}
+use Rattle.loop_data.specs.declared.verdict.Verdict.TheVariants.{MultiEntry, Limit, Call, System, Indirect, Unsupported, Shape}
 use Rattle.loop_data.specs.declared.shape.LoopShape.{LoopShape}
 
 -- an address as 8 hexadecimal digits: what `{:08x}` writes

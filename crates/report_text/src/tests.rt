@@ -47,7 +47,7 @@ fn loops_have_their_lines(rt: HostRuntime) -> Result<(), Fail> {
             early,
         };
         let text = early_line(rt.alloc(), &shape)?;
-        assert!(rt; text.as_str() == line, "not: {line}");
+        assert!(rt; text.as_str() == line);
     }
     Ok(())
 }
