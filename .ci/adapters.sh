@@ -95,7 +95,7 @@ case_is 'a file that is rewritten' 0 '' 'rewritten entries 0 words 0'
 run bash -c "'$program' run new 1 >out 2>report </dev/null"
 case_is 'a rewritten file' 0 hello "$counts"
 run bash -c "'$program' rewrite new newer >out 2>report </dev/null; status=\$?; [ ! -e newer ] && exit \$status"
-case_is 'a refused file: nothing is saved' 124 '' 'refused unbuilt'
+case_is 'a refused file: nothing is saved' 124 '' 'refused marked 1'
 run bash -c "'$program' rewrite hello missing/new >out 2>report </dev/null"
 case_is 'a folder to save to that is missing' 125 '' store-fault
 run bash -c "printf x >>new; '$program' run new 1 >out 2>report </dev/null"
