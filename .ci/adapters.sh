@@ -101,5 +101,29 @@ case_is 'a folder to save to that is missing' 125 '' store-fault
 run bash -c "printf x >>new; '$program' run new 1 >out 2>report </dev/null"
 case_is 'a rewritten file with one byte more' 124 '' 'refused altered 328'
 
+# Files whose program headers are cut, each with one more byte changed: PLACE VALUE, and the refusal.
+change() {
+    printf '%b' "$(printf '\\x%02x' "$2")" | dd of="$folder/pair" bs=1 seek="$1" conv=notrunc status=none
+}
+while read -r place value refusal; do
+    cp "$folder/hello" "$folder/pair"
+    change 32 200
+    change "$place" "$value"
+    run bash -c "'$program' run pair 1 >out 2>report </dev/null"
+    case_is "cut program headers: $refusal" 124 '' "refused $refusal"
+done <<'PAIRS'
+0 126 not-elf
+4 1 class 1
+5 2 byte-order 2
+6 0 version 0
+21 1 version 257
+16 3 file-type 3
+18 62 machine 62
+48 1 flags 1
+54 57 header-size 57
+7 3 header-cut 256 162
+56 65 header-cut 3840 162
+PAIRS
+
 echo "adapters: $good passed, $bad failed"
 [ "$bad" -eq 0 ]
