@@ -1,0 +1,35 @@
+-- The loops of a nest as levels.
+use Rattle.std.proofs.Common.{◌≡◌, ℕ, ◌+◌, ◌<◌, ◌≤◌, List, [], ◌∷◌, ◌++◌, length, get_or, map, take, ap, sym, ◌∙◌, subst}
+use Rattle.std.specs.List.{Contains, All}
+use Rattle.std.proofs.lemmas.List.{map_push, take_more, take_all}
+use Rattle.std.proofs.lemmas.List.Elements.{All-push}
+use Rattle.loop_data.specs.declared.graph.Graph.{Graph}
+use Rattle.loop_data.specs.declared.shape.Level.{Level}
+use Rattle.loop_shapes.specs.Sets.{IsListOf}
+use Rattle.loop_shapes.specs.Shape.{InNest}
+use Rattle.loop_shapes.specs.Outside.{IsOutside}
+use Rattle.loop_shapes.specs.Early.{IsRound}
+use Rattle.loop_shapes.specs.Loops.{IsLevel, AreLevels, IsSoundNest}
+use Rattle.loop_shapes.proofs.Leasts.{most_by}
+use Rattle.loop_shapes.proofs.Shapes.{inner_by}
+
+abbrev pub header_of : Level → ℕ
+header_of v = v.header
+
+pub few_round : (G : Graph) (nest round : List ℕ) (x : ℕ) (s : IsSoundNest G nest) → Contains nest x → IsListOf (IsRound G s.root x) round → length round ≤ 2
+few_round G nest round x s c r = (most_by (IsRound G s.root x) round 2 r).1 (s.small.levels x (s.is.each x c))
+
+-- one level more
+pub level_push : (G : Graph) (h : ℕ) (old new : List Level) (v : Level) (x : ℕ) (front : List ℕ) → new ≡ old ++ v ∷ [] → v.header ≡ x → IsLevel G h v → (map header_of old ≡ front) × All (IsLevel G h) old → (map header_of new ≡ front ++ x ∷ []) × All (IsLevel G h) new
+level_push G h old new v x front e f l a = (
+  ap (map header_of) e ∙ map_push header_of old v ∙ ap (λ (q : List ℕ). q ++ v.header ∷ []) a.0 ∙ ap (λ (q : ℕ). front ++ q ∷ []) f,
+  subst (All (IsLevel G h)) (sym e) (All-push (IsLevel G h) old v a.1 l),
+)
+
+pub level_more : (G : Graph) (h : ℕ) (inner : List ℕ) (i : ℕ) (old new : List Level) (v : Level) → i < length inner → new ≡ old ++ v ∷ [] → v.header ≡ get_or inner i 0 → IsLevel G h v → (map header_of old ≡ h ∷ take i inner) × All (IsLevel G h) old → (map header_of new ≡ h ∷ take (i + 1) inner) × All (IsLevel G h) new
+level_more G h inner i old new v li e f l a =
+    let p = level_push G h old new v (get_or inner i 0) (h ∷ take i inner) e f l a in
+    (p.0 ∙ ap (λ (q : List ℕ). h ∷ q) (sym (take_more inner i 0 li)), p.1)
+
+pub levels_by : (G : Graph) (h : ℕ) (nest inner : List ℕ) (i : ℕ) (all : List Level) → IsListOf (InNest G h) nest → IsListOf (IsOutside nest (h ∷ [])) inner → length inner ≤ i → (map header_of all ≡ h ∷ take i inner) × All (IsLevel G h) all → AreLevels G h all
+levels_by G h nest inner i all is out l a = record { inner = inner; are_inner = inner_by G h nest inner is out; headers = a.0 ∙ ap (λ (q : List ℕ). h ∷ q) (take_all i inner l); each = a.1 }

@@ -1,0 +1,26 @@
+use Rattle.std.proofs.Common.{◌≡◌, ◌<◌, ◌+◌, ℕ, List, length, ap, ◌∙◌, sym, subst, arith}
+use Rattle.std.specs.declared.vec.Vec.{Vec}
+use Rattle.std.specs.declared.alloc.Global.{Global}
+use Rattle.loop_shapes.specs.Covering.{IsReturn}
+use Rattle.loop_shapes.specs.Lines.{IsRowOf}
+use Rattle.loop_shapes.specs.Places.{in_row, count_of}
+use Rattle.loop_shapes.specs.Program.{program_graph}
+use Rattle.loop_shapes.specs.Rows.{rows}
+use Rattle.loop_shapes.proofs.ClosedRows.{rows_more}
+use Rattle.loop_shapes.proofs.listed.return_rows.Goals as goal
+
+pub loop-to-preserved : goal.loop-to-preserved
+loop-to-preserved c =
+    let G = program_graph c.args.program.now in
+    subst (λ (vs : List (Vec ℕ Global)). (length (rows vs) ≡ c.loop-to.to + 1) × ((g : ℕ) → g < c.loop-to.to + 1 → IsRowOf G (IsReturn G) g (in_row (rows vs) g))) (sym c.in_ok-push.ensures.items) (rows_more (IsRowOf G (IsReturn G)) c.loop-to.all.items c.in_ok-return_row.field-0 c.loop-to.to c.loop-to.invariant c.in_ok-return_row.ensures)
+
+pub returns : goal.returns
+returns c =
+    let G = program_graph c.args.program.now in
+    let inv = c.loop-to.invariant in
+    let n = ap length c.requires.program.net.addresses_are in
+    let l = c.loop-to.auto.to-end in
+    let t = c.loop-to-test.false in
+    let v = c.args.program.now.net.at in
+    let e : c.loop-to.to ≡ count_of G = omega (arith, v.ok.0, c.len-to-end.ensures) in
+    record { count = inv.0 ∙ e; each = λ g m. inv.1 g (subst (λ (k : ℕ). g < k) (sym e) m) }

@@ -1,0 +1,18 @@
+use Rattle.std.proofs.Common.{◌≤◌, length, ap, sym, subst, arith}
+use Rattle.loop_shapes.specs.Below.{AreLoopsBelow}
+use Rattle.loop_shapes.specs.Places.{count_of}
+use Rattle.loop_shapes.specs.Program.{program_graph}
+use Rattle.loop_shapes.proofs.Listings.{below_none, below_all}
+use Rattle.loop_shapes.proofs.listing.shapes_of.Goals as goal
+
+pub loop-place-init : goal.loop-place-init
+loop-place-init c = subst (AreLoopsBelow (program_graph c.args.program.now) 0) (sym c.new-all.ensures.items) (below_none (program_graph c.args.program.now))
+
+pub returns : goal.returns
+returns c =
+    let G = program_graph c.args.program.now in
+    let n = ap length c.requires.program.net.addresses_are in
+    let t = c.loop-place-test.false in
+    let v = c.args.program.now.net.at in
+    let le : count_of G ≤ c.loop-place.place = omega (arith, v.ok.0, c.len-place-end.ensures) in
+    below_all G c.loop-place.place c.loop-place.all.items le c.loop-place.invariant

@@ -1,0 +1,78 @@
+-- A graph with what is looked up in it.
+use Rattle.std.specs.Prelude.{ℕ, ◌≡◌, ◌<◌, ◌≤◌, ◌⊎◌, MatchBool, Bool, true, false, List, length, slice_index_or}
+use Rattle.std.specs.List.{Contains}
+use Rattle.loop_data.specs.declared.graph.Graph.{Graph}
+use Rattle.loop_shapes.specs.declared.net.Net.{Net}
+use Rattle.loop_shapes.specs.Paths.{addresses, IsInOrder}
+use Rattle.loop_shapes.specs.Places.{HasSources, AreFlags, count_of, at, in_row}
+use Rattle.loop_shapes.specs.Rows.{rows}
+use Rattle.loop_shapes.specs.Bodies.{InPart, IsClosed}
+use Rattle.loop_shapes.specs.Sets.{HasAtMost}
+
+-- the graph of the net
+abbrev pub graph_of : Net → Graph
+graph_of n = n.graph.now
+
+-- the net has what is true of its graph
+pub record IsNet (n : Net) : Type 0 where
+  pub ordered : IsInOrder (graph_of n)
+  pub addresses_are : n.at.items ≡ addresses (graph_of n)
+  pub sources : HasSources (graph_of n) (count_of (graph_of n)) (rows n.before.items)
+  pub starts : AreFlags (graph_of n) (Contains (graph_of n).starts) n.starts.items
+
+-- the word at one of these places
+pub record IsAmong (G : Graph) (places : List ℕ) (x : ℕ) : Type 0 where
+  pub place : ℕ
+  pub among : Contains places place
+  pub is : at G place ≡ x
+
+-- the places of the words that the edge from one place to another closes into a loop
+pub record IsPart (G : Graph) (header source : ℕ) (found : List ℕ) : Type 0 where
+  pub bound : length found ≤ 256
+  pub each : (i : ℕ) → Contains found i → (i < count_of G) × InPart G (at G header) (at G source) (at G i)
+  pub every : (x : ℕ) → InPart G (at G header) (at G source) x → IsAmong G found x
+
+-- those places, or that there are too many
+abbrev pub HasPart : Bool → Graph → ℕ → ℕ → List ℕ → Type 0
+HasPart small G header source found = MatchBool small (IsPart G header source found) (¬ HasAtMost 256 (InPart G (at G header) (at G source)))
+
+-- of these places only one is that of a start word
+pub record IsOnlyEntry (starts : List Bool) (found : List ℕ) (header : ℕ) : Type 0 where
+  pub same : (i : ℕ) → Contains found i → slice_index_or starts i false ≡ true → i ≡ header
+
+-- the places of the words from which closed edges lead to the word at a place
+pub record AreClosed (G : Graph) (header : ℕ) (places : List ℕ) : Type 0 where
+  pub each : (i : ℕ) → Contains places i → (i < count_of G) × IsClosed G (at G header) (at G i)
+  pub every : (i : ℕ) → i < count_of G → IsClosed G (at G header) (at G i) → Contains places i
+
+-- those of the places xs from which closed edges lead to the word at a place
+pub record AreClosedOf (G : Graph) (header : ℕ) (xs places : List ℕ) : Type 0 where
+  pub each : (i : ℕ) → Contains places i → Contains xs i × IsClosed G (at G header) (at G i)
+  pub every : (i : ℕ) → Contains xs i → IsClosed G (at G header) (at G i) → Contains places i
+
+-- a place more, where a closed edge leads from its word
+pub record HasTriedEdge (G : Graph) (header source : ℕ) (old new : List ℕ) : Type 0 where
+  pub each : (i : ℕ) → Contains new i → Contains old i ⊎ ((i ≡ source) × IsClosed G (at G header) (at G i))
+  pub kept : (i : ℕ) → Contains old i → Contains new i
+  pub every : IsClosed G (at G header) (at G source) → Contains new source
+
+-- for each word, those places
+pub record HasClosed (G : Graph) (rows : List (List ℕ)) : Type 0 where
+  pub count : length rows ≡ count_of G
+  pub each : (j : ℕ) → j < count_of G → AreClosed G j (in_row rows j)
+
+-- the words that the edges from these places close into a loop
+pub record IsPartOf (G : Graph) (header : ℕ) (sources : List ℕ) (x : ℕ) : Type 0 where
+  pub source : ℕ
+  pub among : Contains sources source
+  pub part : InPart G (at G header) (at G source) x
+
+pub record IsUnion (G : Graph) (header : ℕ) (sources xs : List ℕ) : Type 0 where
+  pub each : (x : ℕ) → Contains xs x → IsPartOf G header sources x
+  pub every : (i x : ℕ) → Contains sources i → InPart G (at G header) (at G i) x → Contains xs x
+
+-- more addresses
+pub record HasMore (P : ℕ → Type 0) (old new : List ℕ) : Type 0 where
+  pub each : (x : ℕ) → Contains new x → Contains old x ⊎ P x
+  pub kept : (x : ℕ) → Contains old x → Contains new x
+  pub every : (x : ℕ) → P x → Contains new x

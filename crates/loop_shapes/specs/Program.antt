@@ -1,0 +1,14 @@
+-- A program with its closed edges.
+use Rattle.loop_data.specs.declared.graph.Graph.{Graph}
+use Rattle.loop_shapes.specs.declared.program.Program.{Program}
+use Rattle.loop_shapes.specs.Net.{IsNet, HasClosed, graph_of}
+use Rattle.loop_shapes.specs.Rows.{rows}
+
+-- the graph of the program
+abbrev pub program_graph : Program → Graph
+program_graph p = graph_of p.net
+
+-- the program has what is true of its graph
+pub record IsProgram (p : Program) : Type 0 where
+  pub net : IsNet p.net
+  pub closed : HasClosed (program_graph p) (rows p.closed.items)

@@ -1,0 +1,63 @@
+-- A search backwards along step edges, over places.
+use Rattle.std.specs.Prelude.{ℕ, ◌≡◌, ◌≢◌, ◌<◌, ◌≤◌, ◌+◌, ◌⊎◌, Bool, MatchBool, List, length, slice_index}
+use Rattle.std.specs.List.{Contains}
+use Rattle.loop_shapes.specs.Paths.{Reaches}
+use Rattle.loop_shapes.specs.Sets.{HasOver}
+use Rattle.loop_shapes.specs.Places.{in_row}
+
+-- each number found stands at its slot
+pub record IsIndexed (found slots : List ℕ) : Type 0 where
+  pub below : (k : ℕ) → k < length found → slice_index found k < length slots
+  pub slot : (k : ℕ) → k < length found → slice_index slots (slice_index found k) ≡ k
+
+-- the numbers found before, in their places, and those of xs
+pub record Grown (old xs new : List ℕ) : Type 0 where
+  pub longer : length old ≤ length new
+  pub few : length new ≤ length old + length xs
+  pub same : (k : ℕ) → k < length old → slice_index new k ≡ slice_index old k
+  pub each : (y : ℕ) → Contains new y → Contains old y ⊎ Contains xs y
+  pub every : (y : ℕ) → Contains xs y → Contains new y
+
+-- 256 numbers found, and one more among xs
+pub record IsFull (old xs found : List ℕ) : Type 0 where
+  pub count : length found ≡ 256
+  pub few : length found ≤ length old + length xs
+  pub each : (y : ℕ) → Contains found y → Contains old y ⊎ Contains xs y
+  pub extra : ℕ
+  pub among : Contains xs extra
+  pub absent : ¬ Contains found extra
+
+-- what is found, or that there is more than can be
+pub record HasRoom (old xs found slots : List ℕ) : Type 0 where
+  pub grown : Grown old xs found
+  pub bound : length found ≤ 256
+  pub indexed : IsIndexed found slots
+
+pub record HasNoRoom (old xs found slots : List ℕ) : Type 0 where
+  pub full : IsFull old xs found
+  pub indexed : IsIndexed found slots
+
+abbrev pub HasTried : Bool → List ℕ → List ℕ → List ℕ → List ℕ → Type 0
+HasTried room old xs found slots = MatchBool room (HasRoom old xs found slots) (HasNoRoom old xs found slots)
+
+-- the rows have places of rows
+abbrev pub AreWithin : List (List ℕ) → Type 0
+AreWithin rows = (j i : ℕ) → Contains (in_row rows j) i → i < length rows
+
+-- the word at one place leads to that at another
+abbrev pub RowLeads : List (List ℕ) → ℕ → ℕ → Type 0
+RowLeads rows i j = Contains (in_row rows j) i
+
+-- the places of the words that an edge from u to h closes into a loop
+abbrev pub InPlaces : List (List ℕ) → ℕ → ℕ → ℕ → Type 0
+InPlaces rows h u i = (i ≡ h) ⊎ Reaches (RowLeads rows) (λ j. j ≢ h) i u
+
+-- exactly those places, each once
+pub record ArePlaces (P : ℕ → Type 0) (found : List ℕ) : Type 0 where
+  pub bound : length found ≤ 256
+  pub each : (i : ℕ) → Contains found i → P i
+  pub every : (i : ℕ) → P i → Contains found i
+
+-- what a search finds
+abbrev pub HasSearched : Bool → List (List ℕ) → ℕ → ℕ → List ℕ → Type 0
+HasSearched small rows h u found = MatchBool small (ArePlaces (InPlaces rows h u) found) (HasOver 256 (InPlaces rows h u))

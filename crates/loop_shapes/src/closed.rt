@@ -1,0 +1,125 @@
+ghost use Rattle.std.specs.Prelude.{◌≡◌, ◌<◌, ◌↔◌, ℕ, IfOk, OnOk, IsTrue, length};
+ghost use Rattle.std.specs.List.{Contains};
+ghost use Rattle.loop_shapes.specs.Bodies.{IsClosed, InBody};
+ghost use Rattle.loop_shapes.specs.Net.{IsNet, IsOnlyEntry, HasPart, HasTriedEdge, AreClosed, HasClosed, graph_of};
+ghost use Rattle.loop_shapes.specs.Paths.{Leads};
+ghost use Rattle.loop_shapes.specs.Places.{at, count_of};
+ghost use Rattle.loop_shapes.specs.Rows.{rows};
+ghost use Rattle.loop_shapes.specs.Sets.{IsListOf};
+
+use crate::net::Net;
+use crate::places::row_at;
+use crate::search::search;
+use std::alloc::{AllocError, Global};
+
+/// Whether the words that an edge closes into a loop are at most 256; `found` then has their places.
+pub fn part(
+    net: &Net,
+    slots: &mut [usize],
+    found: &mut Vec<usize>,
+    header: usize,
+    source: usize,
+) -> Result<bool, AllocError>
+    requires net { IsNet net.now }
+    requires count { length slots.old ≡ count_of (graph_of net.now) }
+    requires header { header < count_of (graph_of net.now) }
+    requires source { source < count_of (graph_of net.now) }
+    ensures { IfOk result (λ small. HasPart small (graph_of net.now) header source found.new.items) }
+{
+    search(net.before.as_slice(), slots, found, header, source)
+}
+
+// Whether a start word stands only at one of these places.
+fn is_only_entry(starts: &[bool], found: &[usize], header: usize) -> bool
+    requires { (i : ℕ) → Contains found.now i → i < length starts.now }
+    ensures { IsTrue result ↔ IsOnlyEntry starts.now found.now header }
+{
+    for i in found {
+        if starts[*i] && *i != header {
+            return false;
+        }
+    }
+    true
+}
+
+// Whether an edge is closed.
+fn is_closed(
+    net: &Net,
+    slots: &mut [usize],
+    found: &mut Vec<usize>,
+    header: usize,
+    source: usize,
+) -> Result<bool, AllocError>
+    requires net { IsNet net.now }
+    requires count { length slots.old ≡ count_of (graph_of net.now) }
+    requires header { header < count_of (graph_of net.now) }
+    requires source { source < count_of (graph_of net.now) }
+    requires edge { Leads (graph_of net.now) (at (graph_of net.now) source) (at (graph_of net.now) header) }
+    ensures { IfOk result (λ b. IsTrue b ↔ IsClosed (graph_of net.now) (at (graph_of net.now) header) (at (graph_of net.now) source)) }
+{
+    if !part(net, slots, found, header, source)? {
+        return Ok(false);
+    }
+    Ok(is_only_entry(net.starts.as_slice(), found, header))
+}
+
+// Puts a place to a row, where a closed edge leads from it.
+fn add_closed(
+    net: &Net,
+    slots: &mut [usize],
+    found: &mut Vec<usize>,
+    row: &mut Vec<usize>,
+    header: usize,
+    source: usize,
+) -> Result<(), AllocError>
+    requires net { IsNet net.now }
+    requires count { length slots.old ≡ count_of (graph_of net.now) }
+    requires header { header < count_of (graph_of net.now) }
+    requires source { source < count_of (graph_of net.now) }
+    requires edge { Leads (graph_of net.now) (at (graph_of net.now) source) (at (graph_of net.now) header) }
+    ensures { OnOk result (HasTriedEdge (graph_of net.now) header source row.old.items row.new.items) }
+{
+    if !is_closed(net, slots, found, header, source)? {
+        return Ok(());
+    }
+    row.push(source)?;
+    Ok(())
+}
+
+// The places of the words from which closed edges lead to a word.
+fn closed_row(
+    alloc: Global,
+    net: &Net,
+    slots: &mut [usize],
+    found: &mut Vec<usize>,
+    header: usize,
+) -> Result<Vec<usize>, AllocError>
+    requires net { IsNet net.now }
+    requires count { length slots.old ≡ count_of (graph_of net.now) }
+    requires header { header < count_of (graph_of net.now) }
+    ensures { IfOk result (λ v. AreClosed (graph_of net.now) header v.items) }
+{
+    let mut row = Vec::new(alloc);
+    for source in row_at(net.before.as_slice(), header) {
+        add_closed(net, slots, found, &mut row, header, *source)?;
+    }
+    Ok(row)
+}
+
+/// For each word the places of the words from which closed edges lead to it.
+pub fn closed_rows(
+    alloc: Global,
+    net: &Net,
+    slots: &mut [usize],
+    found: &mut Vec<usize>,
+) -> Result<Vec<Vec<usize>>, AllocError>
+    requires net { IsNet net.now }
+    requires count { length slots.old ≡ count_of (graph_of net.now) }
+    ensures { IfOk result (λ v. HasClosed (graph_of net.now) (rows v.items)) }
+{
+    let mut all = Vec::new(alloc);
+    for header in 0..net.at.len() {
+        all.push(closed_row(alloc, net, slots, found, header)?)?;
+    }
+    Ok(all)
+}

@@ -1,0 +1,126 @@
+ghost use Rattle.std.specs.Prelude.{◌≡◌, ◌<◌, ℕ, IfOk, length, [], Some, None};
+ghost use Rattle.std.specs.List.{Contains};
+ghost use Rattle.loop_shapes.specs.Bodies.{IsHeader, InBody};
+ghost use Rattle.loop_shapes.specs.Loops.{IsLevel, AreLevels, IsSoundNest, IsLoop};
+ghost use Rattle.loop_shapes.specs.Places.{AreFlags, count_of};
+ghost use Rattle.loop_shapes.specs.Program.{IsProgram, program_graph};
+ghost use Rattle.loop_shapes.specs.Sets.{IsListOf};
+ghost use Rattle.loop_shapes.specs.Shape.{InNest, IsShaped};
+
+use crate::early::body_verdict;
+use crate::nest::{nest_verdict, round_of};
+use crate::program::{Program, body_at};
+use crate::sets::{minus, nest_of};
+use crate::shape::own_shape;
+use loop_data::{Addresses, Level, Levels, LoopShape, Verdict};
+use std::alloc::{AllocError, Global};
+
+// A loop of a nest.
+fn level(
+    alloc: Global,
+    program: &Program,
+    slots: &mut [usize],
+    found: &mut Vec<usize>,
+    nest: &[u64],
+    x: u64,
+) -> Result<Level, AllocError>
+    requires program { IsProgram program.now }
+    requires count { length slots.old ≡ count_of (program_graph program.now) }
+    requires nest { IsSoundNest (program_graph program.now) nest.now }
+    requires among { Contains nest.now x }
+    ensures header { IfOk result (λ l. l.header ≡ x) }
+    ensures level { IfOk result (λ l. (h : ℕ) → IsListOf (InNest (program_graph program.now) h) nest.now
+        → IsLevel (program_graph program.now) h l) }
+{
+    let body = body_at(alloc, program, slots, found, x)?;
+    let Some(shape) = own_shape(alloc, program, slots, found, body.as_slice(), x)? else {
+        unreachable!()
+    };
+    let round = round_of(alloc, program, slots, found, nest, x)?;
+    let depth = round.len() as u32;
+    Ok(Level {
+        header: x,
+        body: Addresses::new(body),
+        back: shape.0,
+        exit: shape.1,
+        depth,
+    })
+}
+
+// The loops of a nest, that of the root first.
+fn levels_of(
+    alloc: Global,
+    program: &Program,
+    slots: &mut [usize],
+    found: &mut Vec<usize>,
+    nest: &[u64],
+    header: u64,
+) -> Result<Vec<Level>, AllocError>
+    requires program { IsProgram program.now }
+    requires count { length slots.old ≡ count_of (program_graph program.now) }
+    requires nest { IsSoundNest (program_graph program.now) nest.now }
+    requires is { IsListOf (InNest (program_graph program.now) header) nest.now }
+    requires among { Contains nest.now header }
+    ensures { IfOk result (λ v. AreLevels (program_graph program.now) header v.items) }
+{
+    let inner = minus(alloc, nest, &[header])?;
+    let mut all = Vec::new(alloc);
+    all.push(level(alloc, program, slots, found, nest, header)?)?;
+    for x in inner.as_slice() {
+        all.push(level(alloc, program, slots, found, nest, *x)?)?;
+    }
+    Ok(all)
+}
+
+/// A loop with an early verdict.
+pub fn judged(alloc: Global, header: u64, verdict: Verdict) -> LoopShape
+    ensures header { result.header ≡ header }
+    ensures early { result.early ≡ Some verdict }
+    ensures levels { result.levels ≡ [] }
+{
+    LoopShape {
+        header,
+        levels: Levels::new(Vec::new(alloc)),
+        early: Some(verdict),
+    }
+}
+
+/// The loop at a header.
+pub fn loop_at(
+    alloc: Global,
+    program: &Program,
+    shaped: &[bool],
+    slots: &mut [usize],
+    found: &mut Vec<usize>,
+    header: u64,
+) -> Result<LoopShape, AllocError>
+    requires program { IsProgram program.now }
+    requires count { length slots.old ≡ count_of (program_graph program.now) }
+    requires flags { AreFlags (program_graph program.now) (IsShaped (program_graph program.now)) shaped.now }
+    requires header { IsHeader (program_graph program.now) header }
+    ensures header { IfOk result (λ s. s.header ≡ header) }
+    ensures is { IfOk result (IsLoop (program_graph program.now)) }
+{
+    let body = body_at(alloc, program, slots, found, header)?;
+    if let Some(verdict) = body_verdict(&program.net, body.as_slice(), header) {
+        return Ok(judged(alloc, header, verdict));
+    }
+    let nest = nest_of(alloc, program, body.as_slice())?;
+    if let Some(verdict) = nest_verdict(
+        alloc,
+        program,
+        shaped,
+        slots,
+        found,
+        nest.as_slice(),
+        header,
+    )? {
+        return Ok(judged(alloc, header, verdict));
+    }
+    let levels = levels_of(alloc, program, slots, found, nest.as_slice(), header)?;
+    Ok(LoopShape {
+        header,
+        levels: Levels::new(levels),
+        early: None,
+    })
+}

@@ -1,0 +1,151 @@
+ghost use Rattle.std.specs.Prelude.{◌≡◌, ◌<◌, ◌+◌, ◌^◌, ℕ, IfOk, OnOk, length};
+ghost use Rattle.loop_shapes.specs.Below.{HasShapeAt, AreLoopsBelow};
+ghost use Rattle.loop_shapes.specs.Lines.{AreRowsOf};
+ghost use Rattle.loop_shapes.specs.Listed.{IsListed};
+ghost use Rattle.loop_shapes.specs.Loops.{AreLoops};
+ghost use Rattle.loop_shapes.specs.Net.{IsNet, graph_of};
+ghost use Rattle.loop_shapes.specs.Paths.{IsInOrder};
+ghost use Rattle.loop_shapes.specs.Places.{AreFlags, at, count_of};
+ghost use Rattle.loop_shapes.specs.Program.{IsProgram, program_graph};
+ghost use Rattle.loop_shapes.specs.Rows.{rows};
+ghost use Rattle.loop_shapes.specs.Shape.{IsShaped};
+
+use crate::levels::{judged, loop_at};
+use crate::line::line_of;
+use crate::listed::listed_rows;
+use crate::nest::shape_flags;
+use crate::net::{Net, address_of, net_of};
+use crate::numbers::numbers_of;
+use crate::places::row_at;
+use crate::program::{Program, is_header, program_of};
+use loop_data::{Graph, LoopShape};
+use std::alloc::{AllocError, Global};
+
+// The listed loop at a word, where there is one.
+fn shape_at(
+    alloc: Global,
+    program: &Program,
+    shaped: &[bool],
+    listed: &[Vec<usize>],
+    slots: &mut [usize],
+    found: &mut Vec<usize>,
+    place: usize,
+) -> Result<Option<LoopShape>, AllocError>
+    requires program { IsProgram program.now }
+    requires flags { AreFlags (program_graph program.now) (IsShaped (program_graph program.now)) shaped.now }
+    requires listed { AreRowsOf (program_graph program.now) (IsListed (program_graph program.now)) (rows listed.now) }
+    requires count { length slots.old ≡ count_of (program_graph program.now) }
+    requires within { place < count_of (program_graph program.now) }
+    ensures { IfOk result (HasShapeAt (program_graph program.now) (at (program_graph program.now) place)) }
+{
+    let x = address_of(&program.net, place);
+    if is_header(program, x) {
+        let shape = loop_at(alloc, program, shaped, slots, found, x)?;
+        return Ok(Some(shape));
+    }
+    match line_of(
+        alloc,
+        &program.net,
+        slots,
+        found,
+        place,
+        row_at(listed, place),
+    )? {
+        Some(verdict) => Ok(Some(judged(alloc, x, verdict))),
+        None => Ok(None),
+    }
+}
+
+// Puts the listed loop at a word to those before it.
+fn add_shape(
+    alloc: Global,
+    program: &Program,
+    shaped: &[bool],
+    listed: &[Vec<usize>],
+    slots: &mut [usize],
+    found: &mut Vec<usize>,
+    place: usize,
+    all: &mut Vec<LoopShape>,
+) -> Result<(), AllocError>
+    requires program { IsProgram program.now }
+    requires flags { AreFlags (program_graph program.now) (IsShaped (program_graph program.now)) shaped.now }
+    requires listed { AreRowsOf (program_graph program.now) (IsListed (program_graph program.now)) (rows listed.now) }
+    requires count { length slots.old ≡ count_of (program_graph program.now) }
+    requires within { place < count_of (program_graph program.now) }
+    requires below { AreLoopsBelow (program_graph program.now) place all.old.items }
+    ensures { OnOk result (AreLoopsBelow (program_graph program.now) (place + 1) all.new.items) }
+{
+    match shape_at(alloc, program, shaped, listed, slots, found, place)? {
+        Some(shape) => {
+            all.push(shape)?;
+            Ok(())
+        }
+        None => Ok(()),
+    }
+}
+
+// The listed loops of a program.
+fn shapes_of(
+    alloc: Global,
+    program: &Program,
+    slots: &mut [usize],
+    found: &mut Vec<usize>,
+) -> Result<Vec<LoopShape>, AllocError>
+    requires program { IsProgram program.now }
+    requires few { count_of (program_graph program.now) < 2 ^ 32 }
+    requires count { length slots.old ≡ count_of (program_graph program.now) }
+    ensures { IfOk result (λ v. AreLoops (program_graph program.now) v.items) }
+{
+    let numbers = numbers_of(alloc, &program.net)?;
+    let shaped = shape_flags(alloc, program, slots, found)?;
+    let listed = listed_rows(alloc, program, numbers.as_slice(), slots, found)?;
+    let mut all = Vec::new(alloc);
+    for place in 0..program.net.at.len() {
+        add_shape(
+            alloc,
+            program,
+            shaped.as_slice(),
+            listed.as_slice(),
+            slots,
+            found,
+            place,
+            &mut all,
+        )?;
+    }
+    Ok(all)
+}
+
+// Slots for a search, whatever they hold.
+fn slots_for(alloc: Global, count: usize) -> Result<Vec<usize>, AllocError>
+    ensures { IfOk result (λ v. length v.items ≡ count) }
+{
+    let mut all = Vec::with_capacity(alloc, count)?;
+    for _ in 0..count {
+        all.push(0)?;
+    }
+    Ok(all)
+}
+
+// The listed loops of a net.
+fn loops_of(alloc: Global, net: Net, slots: &mut [usize]) -> Result<Vec<LoopShape>, AllocError>
+    requires net { IsNet net }
+    requires few { count_of (graph_of net) < 2 ^ 32 }
+    requires count { length slots.old ≡ count_of (graph_of net) }
+    ensures { IfOk result (λ v. AreLoops (graph_of net.entry) v.items) }
+{
+    let mut found = Vec::new(alloc);
+    let program = program_of(alloc, net, slots, &mut found)?;
+    shapes_of(alloc, &program, slots, &mut found)
+}
+
+/// All listed loops of a program, by header. Words of a program that was read are fewer than 2 to the
+/// 32nd and in address order.
+pub fn loops(alloc: Global, graph: &Graph) -> Result<Vec<LoopShape>, AllocError>
+    requires ordered { IsInOrder graph.now }
+    requires few { count_of graph.now < 2 ^ 32 }
+    ensures { IfOk result (λ v. AreLoops graph.now v.items) }
+{
+    let net = net_of(alloc, graph)?;
+    let mut slots = slots_for(alloc, net.at.len())?;
+    loops_of(alloc, net, &mut slots)
+}

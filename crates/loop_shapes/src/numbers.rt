@@ -1,0 +1,77 @@
+ghost use Rattle.std.specs.Prelude.{◌≡◌, ◌↔◌, ◌<◌, ◌≤◌, ◌^◌, ℕ, IfOk, IfSome, IfNone, length, slice_index};
+ghost use Rattle.std.specs.List.{Contains};
+ghost use Rattle.loop_shapes.specs.Net.{IsNet, graph_of};
+ghost use Rattle.loop_shapes.specs.Numbers.{AreNodes, AreNumbers};
+ghost use Rattle.loop_shapes.specs.Paths.{IsWord, Leads};
+ghost use Rattle.loop_shapes.specs.Places.{at, count_of};
+ghost use Rattle.strong_components.specs.Graph.{LeadsTo};
+
+use crate::net::{Net, find};
+use std::alloc::{AllocError, Global};
+use strong_components::{Successors, components};
+
+// Where the step edges of the word at a place lead.
+fn word_steps<'a>(net: &'a Net, place: usize) -> &'a [u64]
+    requires net { IsNet net.now }
+    requires within { place < count_of (graph_of net.now) }
+    ensures steps { (y : ℕ) → Contains result.now y ↔ Leads (graph_of net.now) (at (graph_of net.now) place) y }
+    ensures few { length result.now ≤ 2 }
+{
+    net.graph.words.as_slice()[place].steps.as_slice()
+}
+
+// The place to which one of some steps leads.
+fn step_at(net: &Net, steps: &[u64], k: usize) -> Option<u32>
+    requires net { IsNet net.now }
+    requires few { count_of (graph_of net.now) < 2 ^ 32 }
+    ensures some { IfSome result (λ j. (j < count_of (graph_of net.now)) × (k < length steps.now)
+        × (at (graph_of net.now) j ≡ slice_index steps.now k)) }
+    ensures none { IfNone result (k < length steps.now → ¬ IsWord (graph_of net.now) (slice_index steps.now k)) }
+{
+    if k >= steps.len() {
+        return None;
+    }
+    match find(net, steps[k]) {
+        Some(j) => Some(j as u32),
+        None => None,
+    }
+}
+
+// The words to which the step edges of the word at a place lead.
+fn successors_at(net: &Net, place: usize) -> Successors
+    requires net { IsNet net.now }
+    requires few { count_of (graph_of net.now) < 2 ^ 32 }
+    requires within { place < count_of (graph_of net.now) }
+    ensures { (j : ℕ) → LeadsTo result j
+        ↔ ((j < count_of (graph_of net.now)) × Leads (graph_of net.now) (at (graph_of net.now) place) (at (graph_of net.now) j)) }
+{
+    let steps = word_steps(net, place);
+    Successors {
+        first: step_at(net, steps, 0),
+        second: step_at(net, steps, 1),
+    }
+}
+
+// The graph of the step edges between words.
+fn nodes(alloc: Global, net: &Net) -> Result<Vec<Successors>, AllocError>
+    requires net { IsNet net.now }
+    requires few { count_of (graph_of net.now) < 2 ^ 32 }
+    ensures { IfOk result (λ v. AreNodes (graph_of net.now) v.items) }
+{
+    let mut all = Vec::new(alloc);
+    for place in 0..net.at.len() {
+        all.push(successors_at(net, place))?;
+    }
+    Ok(all)
+}
+
+/// Numbers for the words of which each is reached from the other.
+pub fn numbers_of(alloc: Global, net: &Net) -> Result<Vec<u32>, AllocError>
+    requires net { IsNet net.now }
+    requires few { count_of (graph_of net.now) < 2 ^ 32 }
+    ensures { IfOk result (λ v. AreNumbers (graph_of net.now) v.items) }
+{
+    let graph = nodes(alloc, net)?;
+    let all = components(alloc, graph.as_slice())?;
+    Ok(all)
+}

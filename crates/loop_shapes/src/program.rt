@@ -1,0 +1,135 @@
+ghost use Rattle.std.specs.Prelude.{◌≡◌, ◌↔◌, ◌<◌, ℕ, IfOk, IfSome, IfNone, IsTrue, length};
+ghost use Rattle.std.specs.List.{Contains};
+ghost use Rattle.std.specs.List.Sorted.{IsStrictlyIncreasing};
+ghost use Rattle.loop_shapes.specs.Bodies.{IsClosed, IsHeader, InBody};
+ghost use Rattle.loop_shapes.specs.Net.{IsNet, AreClosed, graph_of};
+ghost use Rattle.loop_shapes.specs.Paths.{Leads};
+ghost use Rattle.loop_shapes.specs.Places.{count_of};
+ghost use Rattle.loop_shapes.specs.Program.{IsProgram, program_graph};
+ghost use Rattle.loop_shapes.specs.Sets.{IsListOf};
+
+use crate::body::body_of;
+use crate::closed::closed_rows;
+use crate::net::{Net, find};
+use crate::places::{place_of, row_at};
+use std::alloc::{AllocError, Global};
+
+/// A program with its closed edges.
+#[derive(Drop)]
+pub struct Program<'a> {
+    /// The graph and what is looked up in it.
+    pub net: Net<'a>,
+    /// For each word the places of the words from which closed edges lead to it.
+    pub closed: Vec<Vec<usize>>,
+}
+
+/// The program of a net.
+pub fn program_of<'a>(
+    alloc: Global,
+    net: Net<'a>,
+    slots: &mut [usize],
+    found: &mut Vec<usize>,
+) -> Result<Program<'a>, AllocError>
+    requires net { IsNet net }
+    requires count { length slots.old ≡ count_of (graph_of net) }
+    ensures program { IfOk result IsProgram }
+    ensures graph { IfOk result (λ p. program_graph p ≡ graph_of net.entry) }
+{
+    let closed = closed_rows(alloc, &net, slots, found)?;
+    Ok(Program { net, closed })
+}
+
+/// Whether an address is among others that are in order.
+pub fn is_among(xs: &[u64], x: u64) -> bool
+    requires { IsStrictlyIncreasing xs.now }
+    ensures { IsTrue result ↔ Contains xs.now x }
+{
+    match place_of(xs, x) {
+        Some(_) => true,
+        None => false,
+    }
+}
+
+/// Whether an address is among others in any order.
+pub fn has(xs: &[u64], x: u64) -> bool
+    ensures { IsTrue result ↔ Contains xs.now x }
+{
+    xs.iter().any(|y| *y == x)
+}
+
+/// Where the step edges of the word at an address lead.
+pub fn steps_of<'a>(net: &'a Net, x: u64) -> &'a [u64]
+    requires { IsNet net.now }
+    ensures { (y : ℕ) → Contains result.now y ↔ Leads (graph_of net.now) x y }
+{
+    match find(net, x) {
+        Some(place) => net.graph.words.as_slice()[place].steps.as_slice(),
+        None => &[],
+    }
+}
+
+/// The places of the words from which closed edges lead to the word at a place.
+pub fn sources_of<'a>(program: &'a Program, place: usize) -> &'a [usize]
+    requires program { IsProgram program.now }
+    requires within { place < count_of (program_graph program.now) }
+    ensures { AreClosed (program_graph program.now) place result.now }
+{
+    row_at(program.closed.as_slice(), place)
+}
+
+/// Whether a loop stands at an address.
+pub fn is_header(program: &Program, x: u64) -> bool
+    requires { IsProgram program.now }
+    ensures { IsTrue result ↔ IsHeader (program_graph program.now) x }
+{
+    match find(&program.net, x) {
+        Some(place) => !sources_of(program, place).is_empty(),
+        None => false,
+    }
+}
+
+// Whether a number is among others.
+fn has_place(xs: &[usize], x: usize) -> bool
+    ensures { IsTrue result ↔ Contains xs.now x }
+{
+    xs.iter().any(|y| *y == x)
+}
+
+/// Whether an edge is closed.
+pub fn is_closed_edge(program: &Program, header: u64, source: u64) -> bool
+    requires { IsProgram program.now }
+    ensures { IsTrue result ↔ IsClosed (program_graph program.now) header source }
+{
+    let Some(to) = find(&program.net, header) else {
+        return false;
+    };
+    let Some(from) = find(&program.net, source) else {
+        return false;
+    };
+    has_place(sources_of(program, to), from)
+}
+
+/// The words of the loop at an address, in order; none where no loop stands there.
+pub fn body_at(
+    alloc: Global,
+    program: &Program,
+    slots: &mut [usize],
+    found: &mut Vec<usize>,
+    x: u64,
+) -> Result<Vec<u64>, AllocError>
+    requires program { IsProgram program.now }
+    requires count { length slots.old ≡ count_of (program_graph program.now) }
+    ensures { IfOk result (λ v. IsListOf (InBody (program_graph program.now) x) v.items) }
+{
+    match find(&program.net, x) {
+        Some(place) => body_of(
+            alloc,
+            &program.net,
+            slots,
+            found,
+            place,
+            sources_of(program, place),
+        ),
+        None => Ok(Vec::new(alloc)),
+    }
+}

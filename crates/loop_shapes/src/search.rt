@@ -1,0 +1,127 @@
+ghost use Rattle.std.specs.Prelude.{◌≡◌, ◌≢◌, ◌<◌, ◌≤◌, ◌+◌, ℕ, ◌++◌, ◌∷◌, [], length, IfOk, OnOk, IsTrue, ◌↔◌};
+ghost use Rattle.std.specs.List.{Contains};
+ghost use Rattle.loop_shapes.specs.Rows.{rows};
+ghost use Rattle.loop_shapes.specs.Search.{IsIndexed, HasTried, HasRoom, HasSearched, AreWithin};
+ghost use Rattle.loop_shapes.specs.Places.{in_row};
+
+use std::alloc::AllocError;
+
+// The number of words that a loop may have.
+const LIMIT: usize = 256;
+
+// Whether a number is found.
+fn is_found(found: &[usize], slots: &[usize], x: usize) -> bool
+    requires within { x < length slots.now }
+    requires indexed { IsIndexed found.now slots.now }
+    ensures { IsTrue result ↔ Contains found.now x }
+{
+    let slot = slots[x];
+    slot < found.len() && found[slot] == x
+}
+
+// Puts a new number to those that are found.
+fn push_new(found: &mut Vec<usize>, slots: &mut [usize], x: usize) -> Result<(), AllocError>
+    requires within { x < length slots.old }
+    requires indexed { IsIndexed found.old.items slots.old }
+    requires absent { ¬ Contains found.old.items x }
+    ensures items { OnOk result (found.new.items ≡ found.old.items ++ x ∷ []) }
+    ensures indexed { OnOk result (IsIndexed found.new.items slots.new) }
+{
+    slots[x] = found.len();
+    found.push(x)?;
+    Ok(())
+}
+
+// Puts a number to those that are found, where it is not among them; whether there was room.
+fn add_new(found: &mut Vec<usize>, slots: &mut [usize], x: usize) -> Result<bool, AllocError>
+    requires within { x < length slots.old }
+    requires indexed { IsIndexed found.old.items slots.old }
+    requires bound { length found.old.items ≤ 256 }
+    ensures { IfOk result (λ room. HasTried room found.old.items (x ∷ []) found.new.items slots.new) }
+{
+    if is_found(found, slots, x) {
+        return Ok(true);
+    }
+    if found.len() == LIMIT {
+        return Ok(false);
+    }
+    push_new(found, slots, x)?;
+    Ok(true)
+}
+
+// Puts numbers to those that are found; whether there was room.
+fn add_all(found: &mut Vec<usize>, slots: &mut [usize], more: &[usize]) -> Result<bool, AllocError>
+    requires within { (x : ℕ) → Contains more.now x → x < length slots.old }
+    requires indexed { IsIndexed found.old.items slots.old }
+    requires bound { length found.old.items ≤ 256 }
+    ensures { IfOk result (λ room. HasTried room found.old.items more.now found.new.items slots.new) }
+{
+    for x in more {
+        if !add_new(found, slots, *x)? {
+            return Ok(false);
+        }
+    }
+    Ok(true)
+}
+
+// Puts the numbers of a row to those that are found; whether there was room.
+fn add_row(
+    before: &[Vec<usize>],
+    slots: &mut [usize],
+    found: &mut Vec<usize>,
+    at: usize,
+) -> Result<bool, AllocError>
+    requires within { AreWithin (rows before.now) }
+    requires count { length slots.old ≡ length before.now }
+    requires at { at < length before.now }
+    requires indexed { IsIndexed found.old.items slots.old }
+    requires bound { length found.old.items ≤ 256 }
+    ensures { IfOk result (λ room. HasTried room found.old.items (in_row (rows before.now) at) found.new.items slots.new) }
+{
+    add_all(found, slots, before[at].as_slice())
+}
+
+// Begins a search with the header and the source.
+fn start(
+    slots: &mut [usize],
+    found: &mut Vec<usize>,
+    header: usize,
+    source: usize,
+) -> Result<(), AllocError>
+    requires header { header < length slots.old }
+    requires source { source < length slots.old }
+    ensures { OnOk result (HasRoom (header ∷ []) (source ∷ []) found.new.items slots.new) }
+{
+    found.clear();
+    push_new(found, slots, header)?;
+    add_new(found, slots, source)?;
+    Ok(())
+}
+
+/// Searches backwards from `source` and stops at `header`: whether the edge from `source` to `header`
+/// closes at most 256 words into a loop, whose places `found` then has. What `slots` holds matters
+/// neither before nor after.
+pub fn search(
+    before: &[Vec<usize>],
+    slots: &mut [usize],
+    found: &mut Vec<usize>,
+    header: usize,
+    source: usize,
+) -> Result<bool, AllocError>
+    requires within { AreWithin (rows before.now) }
+    requires count { length slots.old ≡ length before.now }
+    requires header { header < length before.now }
+    requires source { source < length before.now }
+    ensures { IfOk result (λ small. HasSearched small (rows before.now) header source found.new.items) }
+{
+    start(slots, found, header, source)?;
+    let mut next = 1;
+    while next < found.len() {
+        let at = found[next];
+        if !add_row(before, slots, found, at)? {
+            return Ok(false);
+        }
+        next += 1;
+    }
+    Ok(true)
+}

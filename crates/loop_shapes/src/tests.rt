@@ -1,0 +1,433 @@
+ghost use Rattle.std.specs.Prelude.{IsTrue, ◌<◌, ◌≤◌};
+ghost use Rattle.std.specs.List.Sorted.{IsStrictlyIncreasing};
+
+use crate::loops;
+use crate::places::address_list;
+use arrayvec::ArrayVec;
+use loop_data::{Addresses, Graph, GraphWords, LoopShape, Verdict, Word};
+use std::alloc::{AllocError, Global};
+use std::process::Abort;
+use std::test::Fail;
+
+// addi a0, a0, 1
+const ADD: u32 = 0x0015_0513;
+
+// bne a0, a2, with a target of its own in each graph
+const BRANCH: u32 = 0xFEC5_1CE3;
+
+// jal x0
+const JUMP: u32 = 0x0000_006F;
+
+// jal ra
+const CALL: u32 = 0x1000_00EF;
+
+// jalr ra, 0(t0)
+const CALL_REGISTER: u32 = 0x0002_80E7;
+
+// jalr x0, 0(t0)
+const JUMP_REGISTER: u32 = 0x0002_8067;
+
+// auipc t0, 0
+const UPPER: u32 = 0x0000_0297;
+
+const ECALL: u32 = 0x0000_0073;
+
+const EBREAK: u32 = 0x0010_0073;
+
+// An add with a function that RV64IM has not.
+const NO_WORD: u32 = 0x0600_0053;
+
+// A word with the addresses to which its step edges lead, 0 for none.
+fn word(at: u64, bits: u32, first: u64, second: u64) -> Word {
+    let mut steps = ArrayVec::new();
+    if first != 0 {
+        let _ = steps.try_push(first);
+    }
+    if second != 0 {
+        let _ = steps.try_push(second);
+    }
+    Word { at, bits, steps }
+}
+
+// The graph of these words, each by its address, its bits and the addresses to which it leads, and of
+// these start words.
+fn graph(
+    alloc: Global,
+    lines: &[(u64, u32, u64, u64)],
+    starts: &[u64],
+) -> Result<Graph, AllocError> {
+    let mut words = Vec::new(alloc);
+    for line in lines {
+        words.push(word(line.0, line.1, line.2, line.3))?;
+    }
+    Ok(Graph {
+        words: GraphWords::new(words),
+        starts: Addresses::new(Vec::from_slice(alloc, starts)?),
+    })
+}
+
+// Whether each number is below the next.
+fn rises(at: &[u64]) -> bool
+    ensures { IsTrue result → IsStrictlyIncreasing at.now }
+{
+    for i in 1..at.len() {
+        if at[i - 1] >= at[i] {
+            return false;
+        }
+    }
+    true
+}
+
+// The listed loops of these words.
+fn listed(
+    rt: &impl Abort,
+    alloc: Global,
+    lines: &[(u64, u32, u64, u64)],
+    starts: &[u64],
+) -> Result<Vec<LoopShape>, AllocError> {
+    let graph = graph(alloc, lines, starts)?;
+    let at = address_list(alloc, &graph)?;
+    assert!(rt; rises(at.as_slice()));
+    assert!(rt; at.len() < 1000);
+    loops(alloc, &graph)
+}
+
+// That the loop at a place of the list has this header and this early verdict.
+fn expect_line(
+    rt: &impl Abort,
+    shapes: &[LoopShape],
+    place: usize,
+    header: u64,
+    early: Option<Verdict>,
+) {
+    assert!(rt; place < shapes.len());
+    assert_eq!(rt; shapes[place].header, header);
+    assert!(rt; shapes[place].early == early);
+}
+
+#[test]
+fn lists_a_loop_tested_at_its_bottom(rt: HostRuntime) -> Result<(), Fail> {
+    let lines = [
+        (0x10078, ADD, 0x1007C, 0),
+        (0x1007C, ADD, 0x10080, 0),
+        (0x10080, BRANCH, 0x10084, 0x1007C),
+        (0x10084, EBREAK, 0, 0),
+    ];
+    let shapes = listed(&rt, rt.alloc(), &lines, &[0x10078])?;
+    assert_eq!(rt; shapes.len(), 1);
+    expect_line(&rt, shapes.as_slice(), 0, 0x1007C, None);
+    let levels = shapes[0].levels.as_slice();
+    assert_eq!(rt; levels.len(), 1);
+    assert_eq!(rt; levels[0].header, 0x1007C);
+    assert_eq!(rt; levels[0].back, 0x10080);
+    assert_eq!(rt; levels[0].exit, 0x10080);
+    assert_eq!(rt; levels[0].depth, 0);
+    assert_eq!(rt; levels[0].body.as_slice(), [0x1007C, 0x10080].as_slice());
+    Ok(())
+}
+
+#[test]
+fn two_exits_have_no_shape(rt: HostRuntime) -> Result<(), Fail> {
+    let lines = [
+        (0x10078, ADD, 0x1007C, 0),
+        (0x1007C, BRANCH, 0x10080, 0x10084),
+        (0x10080, BRANCH, 0x10084, 0x10078),
+        (0x10084, EBREAK, 0, 0),
+    ];
+    let shapes = listed(&rt, rt.alloc(), &lines, &[0x10078])?;
+    assert_eq!(rt; shapes.len(), 1);
+    expect_line(
+        &rt,
+        shapes.as_slice(),
+        0,
+        0x10078,
+        Some(Verdict::Shape { at: 0x10078 }),
+    );
+    Ok(())
+}
+
+// The early verdict of a loop at 0x10080 with this word at 0x10084, which goes on to the next.
+fn with_word(
+    rt: &impl Abort,
+    alloc: Global,
+    before: u32,
+    bits: u32,
+) -> Result<Option<Verdict>, AllocError> {
+    let lines = [
+        (0x1007C, ADD, 0x10080, 0),
+        (0x10080, before, 0x10084, 0),
+        (0x10084, bits, 0x10088, 0),
+        (0x10088, BRANCH, 0x1008C, 0x10080),
+        (0x1008C, EBREAK, 0, 0),
+    ];
+    let shapes = listed(rt, alloc, &lines, &[0x1007C])?;
+    assert!(rt; shapes.len() == 1);
+    Ok(shapes[0].early)
+}
+
+#[test]
+fn words_that_a_loop_may_not_have(rt: HostRuntime) -> Result<(), Fail> {
+    let alloc = rt.alloc();
+    let at = 0x10084;
+    assert!(rt; with_word(&rt, alloc, ADD, CALL)? == Some(Verdict::Call { at }));
+    assert!(rt; with_word(&rt, alloc, UPPER, CALL_REGISTER)? == Some(Verdict::Call { at }));
+    assert!(rt; with_word(&rt, alloc, ADD, ECALL)? == Some(Verdict::System { at }));
+    assert!(rt; with_word(&rt, alloc, ADD, CALL_REGISTER)? == Some(Verdict::Indirect { at }));
+    assert!(rt; with_word(&rt, alloc, UPPER, JUMP_REGISTER)? == Some(Verdict::Indirect { at }));
+    assert!(rt; with_word(&rt, alloc, ADD, NO_WORD)? == Some(Verdict::Unsupported { at }));
+    assert!(rt; with_word(&rt, alloc, ADD, ADD)? == None);
+    Ok(())
+}
+
+#[test]
+fn a_jump_into_a_loop_is_a_second_entry(rt: HostRuntime) -> Result<(), Fail> {
+    let lines = [
+        (0x10078, BRANCH, 0x1007C, 0x10084),
+        (0x1007C, ADD, 0x10080, 0),
+        (0x10080, ADD, 0x10084, 0),
+        (0x10084, ADD, 0x10088, 0),
+        (0x10088, BRANCH, 0x1008C, 0x10080),
+        (0x1008C, EBREAK, 0, 0),
+    ];
+    let shapes = listed(&rt, rt.alloc(), &lines, &[0x10078])?;
+    assert_eq!(rt; shapes.len(), 1);
+    let entry = Verdict::MultiEntry {
+        from: 0x10078,
+        to: 0x10084,
+    };
+    expect_line(&rt, shapes.as_slice(), 0, 0x10080, Some(entry));
+    Ok(())
+}
+
+#[test]
+fn a_start_in_the_middle_is_the_header(rt: HostRuntime) -> Result<(), Fail> {
+    let lines = [
+        (0x10078, ADD, 0x1007C, 0),
+        (0x1007C, ADD, 0x10080, 0),
+        (0x10080, BRANCH, 0x10084, 0x10078),
+        (0x10084, EBREAK, 0, 0),
+    ];
+    let shapes = listed(&rt, rt.alloc(), &lines, &[0x1007C])?;
+    assert_eq!(rt; shapes.len(), 1);
+    expect_line(&rt, shapes.as_slice(), 0, 0x1007C, None);
+    let levels = shapes[0].levels.as_slice();
+    assert_eq!(rt; levels.len(), 1);
+    assert_eq!(rt; levels[0].back, 0x10078);
+    assert_eq!(rt; levels[0].exit, 0x10080);
+    Ok(())
+}
+
+#[test]
+fn a_loop_of_one_word(rt: HostRuntime) -> Result<(), Fail> {
+    let lines = [
+        (0x10078, ADD, 0x1007C, 0),
+        (0x1007C, BRANCH, 0x10080, 0x1007C),
+        (0x10080, EBREAK, 0, 0),
+    ];
+    let shapes = listed(&rt, rt.alloc(), &lines, &[0x10078])?;
+    assert_eq!(rt; shapes.len(), 1);
+    expect_line(&rt, shapes.as_slice(), 0, 0x1007C, None);
+    Ok(())
+}
+
+#[test]
+fn a_cycle_with_two_entries_inside_a_loop(rt: HostRuntime) -> Result<(), Fail> {
+    let lines = [
+        (0x10000, ADD, 0x10004, 0),
+        (0x10004, BRANCH, 0x10008, 0x1000C),
+        (0x10008, ADD, 0x1000C, 0),
+        (0x1000C, BRANCH, 0x10010, 0x10008),
+        (0x10010, BRANCH, 0x10014, 0x10004),
+        (0x10014, EBREAK, 0, 0),
+    ];
+    let shapes = listed(&rt, rt.alloc(), &lines, &[0x10000])?;
+    assert_eq!(rt; shapes.len(), 1);
+    expect_line(
+        &rt,
+        shapes.as_slice(),
+        0,
+        0x10004,
+        Some(Verdict::Shape { at: 0x10004 }),
+    );
+    Ok(())
+}
+
+#[test]
+fn an_exit_that_a_way_goes_round(rt: HostRuntime) -> Result<(), Fail> {
+    let lines = [
+        (0x10000, ADD, 0x10004, 0),
+        (0x10004, BRANCH, 0x10008, 0x1000C),
+        (0x10008, BRANCH, 0x1000C, 0x10014),
+        (0x1000C, ADD, 0x10010, 0),
+        (0x10010, JUMP, 0x10004, 0),
+        (0x10014, EBREAK, 0, 0),
+    ];
+    let shapes = listed(&rt, rt.alloc(), &lines, &[0x10000])?;
+    assert_eq!(rt; shapes.len(), 1);
+    expect_line(
+        &rt,
+        shapes.as_slice(),
+        0,
+        0x10004,
+        Some(Verdict::Shape { at: 0x10004 }),
+    );
+    Ok(())
+}
+
+#[test]
+fn the_line_is_that_of_the_least_source(rt: HostRuntime) -> Result<(), Fail> {
+    let lines = [
+        (0x10070, BRANCH, 0x10074, 0x10088),
+        (0x10074, BRANCH, 0x10078, 0x10084),
+        (0x10078, ADD, 0x1007C, 0),
+        (0x1007C, ADD, 0x10080, 0),
+        (0x10080, ADD, 0x10084, 0),
+        (0x10084, BRANCH, 0x10088, 0x10080),
+        (0x10088, BRANCH, 0x1008C, 0x10080),
+        (0x1008C, EBREAK, 0, 0),
+    ];
+    let shapes = listed(&rt, rt.alloc(), &lines, &[0x10070])?;
+    assert_eq!(rt; shapes.len(), 1);
+    let entry = Verdict::MultiEntry {
+        from: 0x10074,
+        to: 0x10084,
+    };
+    expect_line(&rt, shapes.as_slice(), 0, 0x10080, Some(entry));
+    Ok(())
+}
+
+#[test]
+fn a_second_start_is_a_second_entry(rt: HostRuntime) -> Result<(), Fail> {
+    let lines = [
+        (0x10078, ADD, 0x1007C, 0),
+        (0x1007C, BRANCH, 0x10080, 0x10084),
+        (0x10080, JUMP, 0x10078, 0),
+        (0x10084, EBREAK, 0, 0),
+    ];
+    let shapes = listed(&rt, rt.alloc(), &lines, &[0x10078, 0x10080])?;
+    assert_eq!(rt; shapes.len(), 1);
+    let entry = Verdict::MultiEntry {
+        from: 0x10080,
+        to: 0x10080,
+    };
+    expect_line(&rt, shapes.as_slice(), 0, 0x10078, Some(entry));
+    Ok(())
+}
+
+// The address of a word by its number.
+fn at(i: usize) -> u64
+    requires { i < 1000 }
+{
+    0x10000 + 4 * i as u64
+}
+
+// Puts words with these numbers that lead each to the next.
+fn push_adds(
+    lines: &mut Vec<(u64, u32, u64, u64)>,
+    from: usize,
+    end: usize,
+) -> Result<(), AllocError>
+    requires { end ≤ 900 }
+{
+    for i in from..end {
+        lines.push((at(i), ADD, at(i + 1), 0))?;
+    }
+    Ok(())
+}
+
+// The early verdict of a loop of so many words, tested at its bottom.
+fn of_length(rt: &impl Abort, alloc: Global, count: usize) -> Result<Option<Verdict>, AllocError>
+    requires { count < 300 }
+{
+    let mut lines = Vec::new(alloc);
+    push_adds(&mut lines, 0, count)?;
+    lines.push((at(count), BRANCH, at(count + 1), at(1)))?;
+    lines.push((at(count + 1), EBREAK, 0, 0))?;
+    let shapes = listed(rt, alloc, lines.as_slice(), &[at(0)])?;
+    assert!(rt; shapes.len() == 1);
+    assert!(rt; shapes[0].header == at(1));
+    Ok(shapes[0].early)
+}
+
+// The early verdict of two loops with one header, the second of which ends at a word.
+fn of_two(rt: &impl Abort, alloc: Global, last: usize) -> Result<Option<Verdict>, AllocError>
+    requires { last < 300 }
+{
+    let mut lines = Vec::new(alloc);
+    push_adds(&mut lines, 0, 1)?;
+    lines.push((at(1), BRANCH, at(2), at(130)))?;
+    push_adds(&mut lines, 2, 129)?;
+    lines.push((at(129), JUMP, at(1), 0))?;
+    push_adds(&mut lines, 130, last)?;
+    lines.push((at(last), BRANCH, at(last + 1), at(1)))?;
+    lines.push((at(last + 1), EBREAK, 0, 0))?;
+    let shapes = listed(rt, alloc, lines.as_slice(), &[at(0)])?;
+    assert!(rt; shapes.len() == 1);
+    assert!(rt; shapes[0].header == at(1));
+    Ok(shapes[0].early)
+}
+
+#[test]
+fn bodies_have_at_most_256_words(rt: HostRuntime) -> Result<(), Fail> {
+    let alloc = rt.alloc();
+    assert!(rt; of_length(&rt, alloc, 256)? == None);
+    assert!(rt; of_length(&rt, alloc, 257)? == Some(Verdict::Limit { at: at(1) }));
+    assert!(rt; of_two(&rt, alloc, 256)? == Some(Verdict::Shape { at: at(1) }));
+    assert!(rt; of_two(&rt, alloc, 257)? == Some(Verdict::Limit { at: at(1) }));
+    Ok(())
+}
+
+// The listed loops of one with so many loops of one word in it.
+fn with_inner(rt: &impl Abort, alloc: Global, inner: usize) -> Result<Vec<LoopShape>, AllocError>
+    requires { inner < 100 }
+{
+    let mut lines = Vec::new(alloc);
+    push_adds(&mut lines, 0, 2)?;
+    for i in 0..inner {
+        lines.push((at(i + 2), BRANCH, at(i + 3), at(i + 2)))?;
+    }
+    lines.push((at(inner + 2), BRANCH, at(inner + 3), at(1)))?;
+    lines.push((at(inner + 3), EBREAK, 0, 0))?;
+    listed(rt, alloc, lines.as_slice(), &[at(0)])
+}
+
+// The listed loops of so many that lie in each other.
+fn nested(rt: &impl Abort, alloc: Global, depth: usize) -> Result<Vec<LoopShape>, AllocError>
+    requires { depth < 100 }
+{
+    let mut lines = Vec::new(alloc);
+    push_adds(&mut lines, 0, depth)?;
+    for i in 0..depth {
+        lines.push((at(depth + i), BRANCH, at(depth + i + 1), at(depth - i)))?;
+    }
+    lines.push((at(2 * depth), EBREAK, 0, 0))?;
+    listed(rt, alloc, lines.as_slice(), &[at(0)])
+}
+
+#[test]
+fn nests_have_at_most_four_loops_and_three_levels(rt: HostRuntime) -> Result<(), Fail> {
+    let alloc = rt.alloc();
+    let limit = Some(Verdict::Limit { at: at(1) });
+
+    let four = with_inner(&rt, alloc, 3)?;
+    assert_eq!(rt; four.len(), 4);
+    expect_line(&rt, four.as_slice(), 0, at(1), None);
+    assert_eq!(rt; four[0].levels.as_slice().len(), 4);
+    let five = with_inner(&rt, alloc, 4)?;
+    assert_eq!(rt; five.len(), 5);
+    expect_line(&rt, five.as_slice(), 0, at(1), limit);
+
+    let three = nested(&rt, alloc, 3)?;
+    assert_eq!(rt; three.len(), 3);
+    expect_line(&rt, three.as_slice(), 0, at(1), None);
+    let levels = three[0].levels.as_slice();
+    assert_eq!(rt; levels.len(), 3);
+    assert_eq!(rt; levels[0].depth, 0);
+    assert_eq!(rt; levels[1].depth, 1);
+    assert_eq!(rt; levels[2].depth, 2);
+    let deep = nested(&rt, alloc, 4)?;
+    assert_eq!(rt; deep.len(), 4);
+    expect_line(&rt, deep.as_slice(), 0, at(1), limit);
+    expect_line(&rt, deep.as_slice(), 1, at(2), None);
+    Ok(())
+}
