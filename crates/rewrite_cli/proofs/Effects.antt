@@ -1,21 +1,22 @@
 -- What a command does, from its counts.
-use Rattle.std.proofs.Common.{◌≡◌, ◌≢◌, ℕ, ◌≤◌, List, length, Option, Some, None, Bool, true, false, refl, arith, ap, sym, ◌∙◌, ◌++◌, ◌⊎◌, inl, inr}
-use Rattle.std.proofs.Math.Seq.{take-length, take-append_seam}
+use Rattle.std.proofs.Common.{◌≡◌, ◌≢◌, ℕ, ◌≤◌, List, length, Option, Some, None, Bool, true, false, refl, arith, ap, sym, ◌∙◌, ◌+◌, ◌++◌, ◌⊎◌, inl, inr}
+use Rattle.std.proofs.Math.Seq.{take-length, take-append_seam, take-append-add}
 use Rattle.std.proofs.lemmas.List.{append-nil}
 use Rattle.std.proofs.lemmas.Bool.Decides.{nat_tests}
 use Rattle.std.specs.Prelude.{nat_lt, take}
 use Rattle.outside_ports.specs.Ports.{Files, PassesLimit, Rose, SavedIn, SameButIn}
 use Rattle.outside_ports.specs.Fakes.{File}
 use Rattle.serial_run.specs.Ports.{IsPrefixOf}
-use Rattle.rewrite_cli.specs.Effect.{Effect, effect_of, of_command, of_content, run_of, rewrite_of, only, load_limit, AreSaved, IsPartOfReport}
+use Rattle.rewrite_cli.specs.Effect.{Effect, effect_of, of_command, of_content, run_of, rewrite_of, list_of, only, load_limit, AreSaved, IsPartOfReport}
 use Rattle.rewrite_cli.specs.Status.{is_from_outside, is_ending}
+use Rattle.rewrite_cli.specs.Listing.{Listing}
 use Rattle.rewrite_cli.specs.Counts.{no_counts}
 use Rattle.rewrite_cli.specs.Texts.{report_of, IsReportPart}
 use Rattle.rewrite_cli.specs.declared.counts.Counts.{Counts}
 use Rattle.rewrite_cli.specs.declared.status.Reason.TheVariants.{LoadTooLong}
 use Rattle.rewrite_cli.specs.declared.status.Status.{Status}
 use Rattle.rewrite_cli.specs.declared.status.Status.TheVariants.{Exited, Faulted, Refused, Usage, OutOfMemory, WriteFault, StoreFault, ReadFault}
-use Rattle.rewrite_cli.specs.Words.{Command, Run, Rewrite, command_of}
+use Rattle.rewrite_cli.specs.Words.{Command, Run, Rewrite, Loops, command_of}
 
 pub content_too_long : (content : Option (List ℕ)) (act : List ℕ → Effect) (input : List ℕ) → PassesLimit content load_limit → of_content act input content ≡ only (Refused (LoadTooLong load_limit)) input
 content_too_long None act input h = absurd h
@@ -31,6 +32,11 @@ nothing_written written before bytes e =
 pub all_written : (written : Option (List ℕ)) (bytes : List ℕ) → written ≡ Some bytes → IsPrefixOf written bytes
 all_written written bytes e =
     record { count = length bytes; are = e ∙ ap (λ (xs : List ℕ). Some xs) (sym (take-length bytes)) }
+
+-- a first part of it has
+pub part_written : (written : Option (List ℕ)) (before bytes : List ℕ) → (k : ℕ) × (written ≡ Some (before ++ take k bytes)) → IsPrefixOf written (before ++ bytes)
+part_written written before bytes p =
+    record { count = length before + p.0; are = p.1 ∙ ap (λ (xs : List ℕ). Some xs) (sym (take-append-add before bytes p.0)) }
 
 -- by whether a port has met a fault
 pub part_or_all : (b : Bool) (written : Option (List ℕ)) (bytes : List ℕ) → (b ≡ true → IsPrefixOf written bytes) → (b ≡ false → written ≡ Some bytes) → IsPrefixOf written bytes
@@ -123,11 +129,17 @@ saved_or_same_of m files name bytes saved before between now e h (inr (inr put))
 
 -- ---- commands
 
-pub effect_run : (words : List (List ℕ)) (m : Files) (xs : List ℕ) (file : List ℕ) (fuel : ℕ) (dump : Option (List ℕ)) → command_of words ≡ Some (Run file fuel dump) → effect_of words m xs ≡ of_content (run_of fuel dump xs) xs (m file)
-effect_run words m xs file fuel dump e = ap (λ (command : Option Command). of_command m xs command) e
+pub effect_run : (words : List (List ℕ)) (m : Files) (xs : List ℕ) (listing : Listing) (file : List ℕ) (fuel : ℕ) (dump : Option (List ℕ)) → command_of words ≡ Some (Run file fuel dump)
+    → effect_of words m xs listing ≡ of_content (run_of fuel dump xs) xs (m file)
+effect_run words m xs listing file fuel dump e = ap (λ (command : Option Command). of_command m xs listing command) e
 
-pub effect_rewrite : (words : List (List ℕ)) (m : Files) (xs : List ℕ) (file new : List ℕ) → command_of words ≡ Some (Rewrite file new) → effect_of words m xs ≡ of_content (rewrite_of new xs) xs (m file)
-effect_rewrite words m xs file new e = ap (λ (command : Option Command). of_command m xs command) e
+pub effect_rewrite : (words : List (List ℕ)) (m : Files) (xs : List ℕ) (listing : Listing) (file new : List ℕ) → command_of words ≡ Some (Rewrite file new)
+    → effect_of words m xs listing ≡ of_content (rewrite_of new xs) xs (m file)
+effect_rewrite words m xs listing file new e = ap (λ (command : Option Command). of_command m xs listing command) e
 
-pub effect_none : (words : List (List ℕ)) (m : Files) (xs : List ℕ) → command_of words ≡ None → effect_of words m xs ≡ only Usage xs
-effect_none words m xs e = ap (λ (command : Option Command). of_command m xs command) e
+pub effect_list : (words : List (List ℕ)) (m : Files) (xs : List ℕ) (listing : Listing) (file : List ℕ) → command_of words ≡ Some (Loops file)
+    → effect_of words m xs listing ≡ of_content (list_of listing xs) xs (m file)
+effect_list words m xs listing file e = ap (λ (command : Option Command). of_command m xs listing command) e
+
+pub effect_none : (words : List (List ℕ)) (m : Files) (xs : List ℕ) (listing : Listing) → command_of words ≡ None → effect_of words m xs listing ≡ only Usage xs
+effect_none words m xs listing e = ap (λ (command : Option Command). of_command m xs listing command) e

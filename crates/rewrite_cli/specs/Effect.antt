@@ -13,14 +13,17 @@ use Rattle.rewriter.specs.declared.rewriting.RewriteErr.{RewriteErr}
 use Rattle.rewriter.specs.declared.rewriting.RewriteErr.TheVariants.{Elf as NotRead, OutOfMemory as NoRoom}
 use Rattle.rewriter.specs.Rewriting.{rewriting_of}
 use Rattle.rewriter.specs.Admission.{Admission, Admitted, Bad, Refused as IsRefused, Differs, admission_of}
-use Rattle.rewrite_cli.specs.Words.{Command, Run, Rewrite, command_of}
+use Rattle.elf_image.specs.declared.image.Elf.{Elf}
+use Rattle.elf_image.specs.Reading.{reading_of}
+use Rattle.rewrite_cli.specs.Words.{Command, Run, Rewrite, Loops, command_of}
+use Rattle.rewrite_cli.specs.Listing.{Listing, Lines, TooMany, IsListingOf}
 use Rattle.rewrite_cli.specs.Status.{is_from_outside, is_early, is_ending}
 use Rattle.rewrite_cli.specs.Counts.{of_steps, no_counts}
 use Rattle.rewrite_cli.specs.Refusals.{refusal_of}
 use Rattle.rewrite_cli.specs.Texts.{report_of}
 use Rattle.rewrite_cli.specs.declared.counts.Counts.{Counts}
 use Rattle.rewrite_cli.specs.declared.counts.Counts.TheVariants.{Image}
-use Rattle.rewrite_cli.specs.declared.status.Reason.TheVariants.{LoadTooLong, BadMark, Altered}
+use Rattle.rewrite_cli.specs.declared.status.Reason.TheVariants.{LoadTooLong, TooManyWords, BadMark, Altered}
 use Rattle.rewrite_cli.specs.declared.status.Status.{Status}
 use Rattle.rewrite_cli.specs.declared.status.Status.TheVariants.{Done, Exited, Faulted, Spent, Usage, Refused, StoreFault, ReadFault, WriteFault, OutOfMemory}
 
@@ -109,16 +112,42 @@ of_rewriting new input (Err e) = only (refusal_of e) input
 abbrev pub rewrite_of : List ℕ → List ℕ → List ℕ → Effect
 rewrite_of new input bytes = of_rewriting new input (rewriting_of bytes)
 
+-- ---- lists of loops
+
+abbrev pub listed : Listing → List ℕ → Effect
+listed (Lines lines) input = record { status = Done; output = lines; rest = input; counts = no_counts; saved = None }
+listed (TooMany count) input = only (Refused (TooManyWords count)) input
+
+abbrev pub of_listing : Listing → List ℕ → Result Elf ElfErr → Effect
+of_listing listing input (Ok elf) = listed listing input
+of_listing listing input (Err e) = only (refusal_of e) input
+
+-- the loops of the executable in these bytes, of which this is the listing
+abbrev pub list_of : Listing → List ℕ → List ℕ → Effect
+list_of listing input bytes = of_listing listing input (reading_of bytes)
+
 -- ---- commands
 
-abbrev pub of_command : Files → List ℕ → Option Command → Effect
-of_command files input None = only Usage input
-of_command files input (Some (Run file fuel dump)) = of_content (run_of fuel dump input) input (files file)
-of_command files input (Some (Rewrite file new)) = of_content (rewrite_of new input) input (files file)
+abbrev pub of_command : Files → List ℕ → Listing → Option Command → Effect
+of_command files input listing None = only Usage input
+of_command files input listing (Some (Run file fuel dump)) = of_content (run_of fuel dump input) input (files file)
+of_command files input listing (Some (Rewrite file new)) = of_content (rewrite_of new input) input (files file)
+of_command files input listing (Some (Loops file)) = of_content (list_of listing input) input (files file)
 
--- what the words do, given the store's files and the input
-abbrev pub effect_of : List (List ℕ) → Files → List ℕ → Effect
-effect_of words files input = of_command files input (command_of words)
+-- what the words do, given the store's files, the input and what they list
+abbrev pub effect_of : List (List ℕ) → Files → List ℕ → Listing → Effect
+effect_of words files input listing = of_command files input listing (command_of words)
+
+abbrev pub IsListingIn : Option (List ℕ) → Listing → Type 0
+IsListingIn None listing = Unit {0}
+IsListingIn (Some bytes) listing = IsListingOf (reading_of bytes) listing
+
+-- this is what the command lists; it is left open for a command that lists nothing
+abbrev pub Lists : Option Command → Files → Listing → Type 0
+Lists None files listing = Unit {0}
+Lists (Some (Run file fuel dump)) files listing = Unit {0}
+Lists (Some (Rewrite file new)) files listing = Unit {0}
+Lists (Some (Loops file)) files listing = IsListingIn (files file) listing
 
 -- ---- causes, and what stays
 
@@ -135,40 +164,63 @@ is_refusal ReadFault = false
 is_refusal WriteFault = false
 is_refusal OutOfMemory = true
 
+-- an answer that tells of what is listed
+abbrev pub is_listed : Status → Bool
+is_listed Done = true
+is_listed (Refused (TooManyWords count)) = true
+is_listed _ = false
+
 -- a file that the command loads is not in a store that tells its files
 abbrev pub LacksFile : Option Command → Option Files → Type 0
 LacksFile None files = ⊥
 LacksFile (Some (Run file fuel dump)) files = Lacks files file
 LacksFile (Some (Rewrite file new)) files = Lacks files file
+LacksFile (Some (Loops file)) files = Lacks files file
 
 -- a command that runs a guest
 abbrev pub is_run : Option Command → Bool
 is_run None = false
 is_run (Some (Run file fuel dump)) = true
 is_run (Some (Rewrite file new)) = false
+is_run (Some (Loops file)) = false
+
+-- a command that writes to the output
+abbrev pub is_writing : Option Command → Bool
+is_writing None = false
+is_writing (Some (Run file fuel dump)) = true
+is_writing (Some (Rewrite file new)) = false
+is_writing (Some (Loops file)) = true
 
 -- the input tells these bytes, where the command reads any
 abbrev pub TellsInput : Option Command → Option (List ℕ) → List ℕ → Type 0
 TellsInput None rest input = Unit {0}
 TellsInput (Some (Run file fuel dump)) rest input = rest ≡ Some input
 TellsInput (Some (Rewrite file new)) rest input = Unit {0}
+TellsInput (Some (Loops file)) rest input = Unit {0}
 
 -- a run that is to save its memory
 abbrev pub is_dumping : Option Command → Bool
 is_dumping None = false
 is_dumping (Some (Run file fuel dump)) = is_some dump
 is_dumping (Some (Rewrite file new)) = false
+is_dumping (Some (Loops file)) = false
 
 -- a command that saves a file
 abbrev pub is_saving : Option Command → Bool
 is_saving None = false
 is_saving (Some (Run file fuel dump)) = is_some dump
 is_saving (Some (Rewrite file new)) = true
+is_saving (Some (Loops file)) = false
 
 -- an answer of the command that comes before any of the input is read or any output is written
 abbrev pub comes_early : Option Command → Status → Bool
 comes_early command StoreFault = not (is_dumping command)
 comes_early command status = is_early status
+
+-- an answer of the command that comes before any output is written
+abbrev pub keeps_output : Option Command → Status → Bool
+keeps_output (Some (Loops file)) Done = false
+keeps_output command status = comes_early command status
 
 -- all files stay but for the one that the command saves
 abbrev pub OthersStay : Files → Option Files → Option Command → Type 0
@@ -176,6 +228,7 @@ OthersStay m files None = files ≡ Some m
 OthersStay m files (Some (Run file fuel None)) = files ≡ Some m
 OthersStay m files (Some (Run file fuel (Some name))) = SameButIn m files name
 OthersStay m files (Some (Rewrite file new)) = SameButIn m files new
+OthersStay m files (Some (Loops file)) = files ≡ Some m
 
 -- the files are those before, with the one that is saved
 abbrev pub AreSaved : Files → Option Files → Option File → Type 0

@@ -4,4 +4,5 @@ pub mod Status
 pub mod Counts
 pub mod Refusals
 pub mod Texts
+pub mod Listing
 pub mod Effect

@@ -3,7 +3,7 @@ use Rattle.std.specs.Prelude.{ℕ, List, [], ◌++◌, codes, decimal, Option, S
 use Rattle.elf_image.specs.declared.rules.ElfErr.{ElfErr}
 use Rattle.elf_image.specs.declared.rules.ElfErr.TheVariants as elf
 use Rattle.rewrite_cli.specs.declared.status.Reason.{Reason}
-use Rattle.rewrite_cli.specs.declared.status.Reason.TheVariants.{LoadTooLong, TooLong, NotElf, HeaderCut, Class, ByteOrder, Version, FileType, Machine, Flags, HeaderSize, TooManyHeaders, Marked, SegmentSize, SegmentCut, Dynamic, WritableCode, Range, TooMuchMemory, Overlap, EntryOutside, BadMark, Altered}
+use Rattle.rewrite_cli.specs.declared.status.Reason.TheVariants.{LoadTooLong, TooLong, NotElf, HeaderCut, Class, ByteOrder, Version, FileType, Machine, Flags, HeaderSize, TooManyHeaders, Marked, SegmentSize, SegmentCut, Dynamic, WritableCode, Range, TooMuchMemory, Overlap, EntryOutside, TooManyWords, BadMark, Altered}
 use Rattle.rewrite_cli.specs.declared.status.Status.{Status}
 use Rattle.rewrite_cli.specs.declared.status.Status.TheVariants.{Refused, OutOfMemory}
 
@@ -54,6 +54,7 @@ reason_name (Range index) = codes "range"
 reason_name (TooMuchMemory bytes) = codes "too-much-memory"
 reason_name (Overlap first second) = codes "overlap"
 reason_name (EntryOutside entry) = codes "entry-outside"
+reason_name (TooManyWords count) = codes "too-many-words"
 reason_name BadMark = codes "bad-mark"
 reason_name (Altered offset) = codes "altered"
 
@@ -80,6 +81,7 @@ reason_fields (Range index) = (Some index, None)
 reason_fields (TooMuchMemory bytes) = (Some bytes, None)
 reason_fields (Overlap first second) = (Some first, Some second)
 reason_fields (EntryOutside entry) = (Some entry, None)
+reason_fields (TooManyWords count) = (Some count, None)
 reason_fields BadMark = (None, None)
 reason_fields (Altered offset) = (Some offset, None)
 

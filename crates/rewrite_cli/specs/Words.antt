@@ -11,6 +11,8 @@ pub data Command : Type 0 where
   Run : (file : List ℕ) (fuel : ℕ) (dump : Option (List ℕ)) → Command
   -- rewrite the executable of the first name, and save its image under the second
   Rewrite : (file new : List ℕ) → Command
+  -- list the loops of the executable of this name
+  Loops : (file : List ℕ) → Command
 
 -- ---- numbers
 
@@ -40,6 +42,7 @@ run_for file fuel dump = option_map (λ n. Run file n dump) (number_up_to most_f
 
 -- the command that the words are; every other list of words is none
 abbrev pub command_of : List (List ℕ) → Option Command
+command_of (verb ∷ file ∷ []) = if bytes_eq verb (codes "list") then Some (Loops file) else None
 command_of (verb ∷ file ∷ third ∷ []) =
     if is_run_by_one verb third then Some (Run file most_fuel None)
     else if bytes_eq verb (codes "rewrite") then Some (Rewrite file third)

@@ -5,10 +5,12 @@ ghost use Rattle.serial_run.specs.Ports.{IsPrefixOf};
 ghost use Rattle.rewrite_cli.specs.Words.{Run, command_of};
 ghost use Rattle.rewrite_cli.specs.Status.{is_from_outside, keeps_files};
 ghost use Rattle.rewrite_cli.specs.Texts.{report_of};
-ghost use Rattle.rewrite_cli.specs.Effect.{effect_of, of_content, run_of, is_run, is_saving, comes_early, TellsInput, AreSaved, OthersStay, LacksFile, IsPartOfReport};
+ghost use Rattle.rewrite_cli.specs.Listing.{Listing};
+ghost use Rattle.rewrite_cli.specs.Effect.{effect_of, of_content, run_of, is_run, is_saving, is_writing, is_listed, comes_early, keeps_output, Lists, TellsInput, AreSaved, OthersStay, LacksFile, IsPartOfReport};
 ghost use Rattle.rewrite_cli.specs.declared.counts.Counts.{Counts as Shown};
 
 use crate::counts::NO_COUNTS;
+use crate::listing::list_file;
 use crate::report::answer;
 use crate::rewriting::rewrite_file;
 use crate::run::run_file;
@@ -87,17 +89,21 @@ pub fn command<R: Threads + Sync, S: Store, I: Source, O: Sink, P: Sink, G: Gate
     report: &mut P,
     _gate: &G,
 ) -> Status
-    // What a command does, where the store tells its files and the input its bytes.
-    ensures answer { (m : Files) (xs : List ℕ) → S.files store.old ≡ Some m → I.rest input.old ≡ Some xs → is_from_outside result ≡ false → result ≡ (effect_of (map string_bytes words.now) m xs).status }
-    ensures output { (m : Files) (xs ys : List ℕ) → S.files store.old ≡ Some m → I.rest input.old ≡ Some xs → is_from_outside result ≡ false → O.written out.old ≡ Some ys → O.written out.new ≡ Some (ys ++ (effect_of (map string_bytes words.now) m xs).output) }
-    ensures unread { (m : Files) (xs : List ℕ) → S.files store.old ≡ Some m → I.rest input.old ≡ Some xs → is_from_outside result ≡ false → I.rest input.new ≡ Some (effect_of (map string_bytes words.now) m xs).rest }
-    ensures report { (m : Files) (xs zs : List ℕ) → S.files store.old ≡ Some m → I.rest input.old ≡ Some xs → is_from_outside result ≡ false → P.written report.old ≡ Some zs → P.written report.new ≡ Some (zs ++ report_of (effect_of (map string_bytes words.now) m xs).counts result) }
+    // What a command does, where the store tells its files and the input its bytes, and of a command that
+    // lists loops what it lists.
+    ensures answer { (m : Files) (xs : List ℕ) (listing : Listing) → S.files store.old ≡ Some m → Lists (command_of (map string_bytes words.now)) m listing → I.rest input.old ≡ Some xs → is_from_outside result ≡ false → result ≡ (effect_of (map string_bytes words.now) m xs listing).status }
+    ensures output { (m : Files) (xs ys : List ℕ) (listing : Listing) → S.files store.old ≡ Some m → Lists (command_of (map string_bytes words.now)) m listing → I.rest input.old ≡ Some xs → is_from_outside result ≡ false → O.written out.old ≡ Some ys → O.written out.new ≡ Some (ys ++ (effect_of (map string_bytes words.now) m xs listing).output) }
+    ensures unread { (m : Files) (xs : List ℕ) (listing : Listing) → S.files store.old ≡ Some m → Lists (command_of (map string_bytes words.now)) m listing → I.rest input.old ≡ Some xs → is_from_outside result ≡ false → I.rest input.new ≡ Some (effect_of (map string_bytes words.now) m xs listing).rest }
+    ensures report { (m : Files) (xs zs : List ℕ) (listing : Listing) → S.files store.old ≡ Some m → Lists (command_of (map string_bytes words.now)) m listing → I.rest input.old ≡ Some xs → is_from_outside result ≡ false → P.written report.old ≡ Some zs → P.written report.new ≡ Some (zs ++ report_of (effect_of (map string_bytes words.now) m xs listing).counts result) }
+
+    // Where the answer tells of what is listed, something is.
+    ensures listing { (m : Files) → S.files store.old ≡ Some m → is_listed result ≡ true → (listing : Listing) × Lists (command_of (map string_bytes words.now)) m listing }
 
     // Whatever the answer is: the output is a first part of what the command writes, and the report
     // is that of the answer.
-    ensures output_so_far { (m : Files) (xs ys : List ℕ) → S.files store.old ≡ Some m → I.rest input.old ≡ Some xs → O.written out.old ≡ Some ys → IsPrefixOf (O.written out.new) (ys ++ (effect_of (map string_bytes words.now) m xs).output) }
+    ensures output_so_far { (m : Files) (xs ys : List ℕ) (listing : Listing) → S.files store.old ≡ Some m → Lists (command_of (map string_bytes words.now)) m listing → I.rest input.old ≡ Some xs → O.written out.old ≡ Some ys → IsPrefixOf (O.written out.new) (ys ++ (effect_of (map string_bytes words.now) m xs listing).output) }
     ensures report_of_answer { (zs : List ℕ) → result ≢ Status.WriteFault → P.written report.old ≡ Some zs → (counts : Shown) × (P.written report.new ≡ Some (zs ++ report_of counts result)) }
-    ensures report_so_far { (m : Files) (xs zs : List ℕ) → S.files store.old ≡ Some m → I.rest input.old ≡ Some xs → result ≡ Status.WriteFault → P.written report.old ≡ Some zs → IsPartOfReport zs (effect_of (map string_bytes words.now) m xs) (P.written report.new) }
+    ensures report_so_far { (m : Files) (xs zs : List ℕ) (listing : Listing) → S.files store.old ≡ Some m → Lists (command_of (map string_bytes words.now)) m listing → I.rest input.old ≡ Some xs → result ≡ Status.WriteFault → P.written report.old ≡ Some zs → IsPartOfReport zs (effect_of (map string_bytes words.now) m xs listing) (P.written report.new) }
 
     // Each answer has its cause.
     ensures usage { result ≡ Status.Usage → command_of (map string_bytes words.now) ≡ None }
@@ -107,25 +113,25 @@ pub fn command<R: Threads + Sync, S: Store, I: Source, O: Sink, P: Sink, G: Gate
     ensures write_fault { result ≡ Status.WriteFault → Rose (O.faults out.old) (O.faults out.new) ⊎ Rose (P.faults report.old) (P.faults report.new) }
 
     // A command is answered as it is defined, or for want of memory, where nothing outside fails.
-    ensures answered { (m : Files) (xs : List ℕ) → S.files store.old ≡ Some m → I.rest input.old ≡ Some xs → ¬ Rose (S.faults store.old) (S.faults store.new) → ¬ Rose (I.faults input.old) (I.faults input.new) → ¬ Rose (O.faults out.old) (O.faults out.new) → ¬ Rose (P.faults report.old) (P.faults report.new) → ¬ LacksFile (command_of (map string_bytes words.now)) (S.files store.old) → (result ≡ (effect_of (map string_bytes words.now) m xs).status) ⊎ (result ≡ Status.OutOfMemory) }
+    ensures answered { (m : Files) (xs : List ℕ) (listing : Listing) → S.files store.old ≡ Some m → Lists (command_of (map string_bytes words.now)) m listing → I.rest input.old ≡ Some xs → ¬ Rose (S.faults store.old) (S.faults store.new) → ¬ Rose (I.faults input.old) (I.faults input.new) → ¬ Rose (O.faults out.old) (O.faults out.new) → ¬ Rose (P.faults report.old) (P.faults report.new) → ¬ LacksFile (command_of (map string_bytes words.now)) (S.files store.old) → (result ≡ (effect_of (map string_bytes words.now) m xs listing).status) ⊎ (result ≡ Status.OutOfMemory) }
 
     // What is saved, and what stays.
-    ensures saved { (m : Files) (xs : List ℕ) → S.files store.old ≡ Some m → TellsInput (command_of (map string_bytes words.now)) (I.rest input.old) xs → is_from_outside result ≡ false → AreSaved m (S.files store.new) (effect_of (map string_bytes words.now) m xs).saved }
+    ensures saved { (m : Files) (xs : List ℕ) (listing : Listing) → S.files store.old ≡ Some m → Lists (command_of (map string_bytes words.now)) m listing → TellsInput (command_of (map string_bytes words.now)) (I.rest input.old) xs → is_from_outside result ≡ false → AreSaved m (S.files store.new) (effect_of (map string_bytes words.now) m xs listing).saved }
     ensures others_stay { (m : Files) → S.files store.old ≡ Some m → OthersStay m (S.files store.new) (command_of (map string_bytes words.now)) }
     ensures files_stay { keeps_files result ≡ true → S.files store.new ≡ S.files store.old }
     ensures none_saved { is_saving (command_of (map string_bytes words.now)) ≡ false → S.files store.new ≡ S.files store.old }
 
     // Where the store met no fault, a failing write leaves the files as they were, or with what the
     // command saves; where it was not the report's write that failed, as they were.
-    ensures saved_or_same { (m : Files) (xs : List ℕ) → S.files store.old ≡ Some m → TellsInput (command_of (map string_bytes words.now)) (I.rest input.old) xs → result ≡ Status.WriteFault → Rose (S.faults store.old) (S.faults store.new) ⊎ ((S.files store.new ≡ Some m) ⊎ AreSaved m (S.files store.new) (effect_of (map string_bytes words.now) m xs).saved) }
+    ensures saved_or_same { (m : Files) (xs : List ℕ) (listing : Listing) → S.files store.old ≡ Some m → Lists (command_of (map string_bytes words.now)) m listing → TellsInput (command_of (map string_bytes words.now)) (I.rest input.old) xs → result ≡ Status.WriteFault → Rose (S.faults store.old) (S.faults store.new) ⊎ ((S.files store.new ≡ Some m) ⊎ AreSaved m (S.files store.new) (effect_of (map string_bytes words.now) m xs listing).saved) }
     ensures output_first { result ≡ Status.WriteFault → Rose (P.faults report.old) (P.faults report.new) ⊎ (S.files store.new ≡ S.files store.old) }
 
     // What is not asked, or not yet.
     ensures store_unasked { command_of (map string_bytes words.now) ≡ None → store.new ≡ store.old }
     ensures input_unasked { is_run (command_of (map string_bytes words.now)) ≡ false → input.new ≡ input.old }
-    ensures output_unasked { is_run (command_of (map string_bytes words.now)) ≡ false → out.new ≡ out.old }
+    ensures output_unasked { is_writing (command_of (map string_bytes words.now)) ≡ false → out.new ≡ out.old }
     ensures input_untouched { comes_early (command_of (map string_bytes words.now)) result ≡ true → input.new ≡ input.old }
-    ensures output_untouched { comes_early (command_of (map string_bytes words.now)) result ≡ true → out.new ≡ out.old }
+    ensures output_untouched { keeps_output (command_of (map string_bytes words.now)) result ≡ true → out.new ≡ out.old }
 
     // Where a file to be loaded is missing, nothing is touched.
     ensures missing_input { LacksFile (command_of (map string_bytes words.now)) (S.files store.old) → input.new ≡ input.old }
@@ -134,6 +140,7 @@ pub fn command<R: Threads + Sync, S: Store, I: Source, O: Sink, P: Sink, G: Gate
 {
     match command_from(words) {
         Command::Unknown => answer(alloc, report, Status::Usage, &NO_COUNTS),
+        Command::Loops { file } => list_file(alloc, file, store, out, report),
         Command::Rewrite { file, new } => rewrite_file(alloc, file, new, store, report),
         Command::Run { file, fuel, dump } => {
             run_command(alloc, file, fuel, dump, store, input, out, report)

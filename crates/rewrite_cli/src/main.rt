@@ -4,6 +4,7 @@
 mod command;
 mod counts;
 mod dumping;
+mod listing;
 mod loading;
 mod refusals;
 mod report;

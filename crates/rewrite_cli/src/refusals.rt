@@ -61,6 +61,7 @@ fn name_of(why: Reason) -> &'static str
         Reason::TooMuchMemory { .. } => "too-much-memory",
         Reason::Overlap { .. } => "overlap",
         Reason::EntryOutside { .. } => "entry-outside",
+        Reason::TooManyWords { .. } => "too-many-words",
         Reason::BadMark => "bad-mark",
         Reason::Altered { .. } => "altered",
     }
@@ -92,6 +93,7 @@ fn fields_of(why: Reason) -> (Option<u128>, Option<u128>)
         Reason::TooMuchMemory { bytes } => (Some(u128::from(bytes)), None),
         Reason::Overlap { first, second } => (Some(u128::from(first)), Some(u128::from(second))),
         Reason::EntryOutside { entry } => (Some(u128::from(entry)), None),
+        Reason::TooManyWords { count } => (Some(u128::from(count)), None),
         Reason::Altered { offset } => (Some(u128::from(offset)), None),
     }
 }

@@ -49,6 +49,8 @@ pub enum Reason {
     Overlap { first: u32, second: u32 },
     /// The entry is no multiple of 4, or lies in no executable segment.
     EntryOutside { entry: u64 },
+    /// More than 262,144 words are reached. The count is 262,145, where the search stops.
+    TooManyWords { count: u64 },
     /// The file is marked as an image, but not whole.
     BadMark,
     /// The file is not the image of its original part: the first byte that differs, or the shorter

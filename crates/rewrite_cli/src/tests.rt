@@ -11,6 +11,7 @@ use std::thread::Threads;
 
 mod dumps;
 mod files;
+mod lists;
 
 const USAGE: &str =
     "usage: list FILE | rewrite FILE NEW | run FILE HARTS [FUEL [DUMP]] | replay FILE HARTS ORDER | make KIND N NEW\n";
@@ -356,7 +357,8 @@ fn other_words_are_no_command(rt: HostRuntime) -> Result<(), Fail> {
         "rewrite file",
         "rewrite file new 1",
         "Rewrite file new",
-        "list file",
+        "list",
+        "list file other",
         "file 1 run",
     ] {
         let mut at = prepared(rt.alloc(), file.as_slice(), "in", 200, failing)?;

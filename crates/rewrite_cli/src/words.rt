@@ -21,6 +21,10 @@ pub enum Command<'a> {
         file: &'a str,
         new: &'a str,
     },
+    /// List the loops of the executable of this name.
+    Loops {
+        file: &'a str,
+    },
     /// The words are no command.
     Unknown,
 }
@@ -89,11 +93,25 @@ fn short_command<'a>(verb: &str, file: &'a str, third: &'a str) -> Command<'a>
     }
 }
 
+// The command that two words are.
+fn list_command<'a>(verb: &str, file: &'a str) -> Command<'a>
+    ensures { command_shown result ≡ command_of (verb.now ∷ file.now ∷ []) }
+{
+    if verb == "list" {
+        Command::Loops { file }
+    } else {
+        Command::Unknown
+    }
+}
+
 /// The command that the words are.
 pub fn command_from<'a>(words: &'a [String]) -> Command<'a>
     ensures { command_shown result ≡ command_of (map string_bytes words.now) }
 {
     match words {
+        [] => Command::Unknown,
+        [_] => Command::Unknown,
+        [verb, file] => list_command(verb.as_str(), file.as_str()),
         [verb, file, third] => short_command(verb.as_str(), file.as_str(), third.as_str()),
         [verb, file, harts, fuel] => {
             run_from(

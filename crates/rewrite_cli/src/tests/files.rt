@@ -6,7 +6,7 @@ use std::alloc::{AllocError, Global};
 use std::test::Fail;
 
 // A whole file with two program headers, which adds two arrays of one number.
-static TWO_HEADERS: [u32; 84] = [
+pub(super) static TWO_HEADERS: [u32; 84] = [
     0x464c_457f,
     0x0001_0102,
     0,
@@ -95,7 +95,12 @@ static TWO_HEADERS: [u32; 84] = [
 
 // The file that adds two arrays of so many numbers, whose bytes in memory are given, with the size of
 // the arrays in bytes put into a register by `lui` and `addiw`.
-fn arrays(alloc: Global, memory: u32, lui: u32, addiw: u32) -> Result<Vec<u8>, AllocError> {
+pub(super) fn arrays(
+    alloc: Global,
+    memory: u32,
+    lui: u32,
+    addiw: u32,
+) -> Result<Vec<u8>, AllocError> {
     let mut words = TWO_HEADERS;
     words[40] = memory;
     words[45] = lui;

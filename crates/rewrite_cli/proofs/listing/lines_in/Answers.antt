@@ -1,0 +1,5 @@
+use Rattle.rewrite_cli.proofs.Sizes.{few_words}
+use Rattle.rewrite_cli.proofs.listing.lines_in.Goals as goal
+
+pub loops-requires-clause-few : goal.loops-requires-clause-few
+loops-requires-clause-few c = few_words c.reached_words.ensures.code _ _ c.requires c.in-Ok.ensures.graph
