@@ -1,7 +1,9 @@
 #!/bin/bash
 # Compiles the C programs of c/ for RV64IM without and with optimisation, runs each with the proved
 # program, before and after rewriting, and compares output and exit status with those that qemu-riscv64
-# gives, where that is installed. Prints a line for each, and ends with status 1 where two differ.
+# gives, where that is installed. Then lists the loops of each, and of a program of more than 100,000 bytes
+# of code. Prints a line for each, and ends with status 1 where two differ, or where a list is refused or
+# takes a second or longer.
 # Takes no arguments and works from any folder. Wants Debian's gcc-riscv64-unknown-elf; without it
 # nothing is done. qemu-riscv64 is in Debian's qemu-user.
 set -euo pipefail
@@ -52,5 +54,46 @@ for source in "$here"/c/*.c; do
             compare "$name, qemu-riscv64" "$folder/qemu" "$folder/run"
         fi
     done
+done
+# list NAME: how many loops are listed of an executable, and in how many milliseconds.
+list() {
+    local start end
+    start=$(date +%s%N)
+    if ! "$program" list "$folder/$1" >"$folder/list" 2>"$folder/report"; then
+        echo "list of $1: $(cat "$folder/report")"
+        failed=1
+        return
+    fi
+    end=$(date +%s%N)
+    local time=$(((end - start) / 1000000))
+    echo "list of $1, $(stat -c %s "$folder/$1") bytes: $(wc -l <"$folder/list") loops, $time ms"
+    [ "$time" -lt 1000 ] || failed=1
+}
+
+# Functions with nests of loops, each called once.
+{
+    echo '#include "calls.h"'
+    for n in $(seq 500); do
+        echo "static long f$n(long *a, long n) {"
+        echo "    long sum = $n;"
+        echo "    for (long i = 0; i < n; i++) {"
+        echo "        for (long j = 0; j < i; j++) sum += a[j] * $n;"
+        echo "        if (sum > n) a[i] = sum;"
+        echo "    }"
+        echo "    return sum;"
+        echo "}"
+    done
+    echo "int main(void) {"
+    echo "    static long a[8];"
+    echo "    long sum = 0;"
+    for n in $(seq 500); do echo "    sum += f$n(a, 8);"; done
+    echo "    write_number((unsigned long)sum);"
+    echo "    return 0;"
+    echo "}"
+} >"$folder/many.c"
+"$compiler" "${flags[@]}" -O0 -I "$here/c" -o "$folder/many-O0" "$here/c/start.S" "$folder/many.c"
+
+for executable in "$folder"/*-O0 "$folder"/*-O2; do
+    list "$(basename "$executable")"
 done
 exit "$failed"
