@@ -98,6 +98,10 @@ run bash -c "'$program' rewrite new newer >out 2>report </dev/null; status=\$?; 
 case_is 'a refused file: nothing is saved' 124 '' 'refused marked 1'
 run bash -c "'$program' rewrite hello missing/new >out 2>report </dev/null"
 case_is 'a folder to save to that is missing' 125 '' store-fault
+run bash -c "'$program' list hello >out 2>report </dev/null"
+case_is 'a list of no loops' 0 '' ''
+run bash -c "'$program' list new >out 2>report </dev/null"
+case_is 'a list of a rewritten file' 124 '' 'refused marked 1'
 run bash -c "printf x >>new; '$program' run new 1 >out 2>report </dev/null"
 case_is 'a rewritten file with one byte more' 124 '' 'refused altered 328'
 
