@@ -1,7 +1,9 @@
 #!/bin/bash
-# Runs the built program on real files and streams: what the adapters do with a missing file, a folder,
-# a closed or full output and a closed input, and with files that are saved. Prints a line for each case,
-# and ends with status 1 where one is not as it should be.
+# Runs the built program on real files and streams: what the adapters do with a missing file, a folder, a
+# pipe, a closed or full output, a reader that goes away, long streams in odd pieces and a closed input, and
+# with files that are saved over others, through links, onto devices, on a full disk and in folders that may
+# not be written. Compares outputs, reports and files byte by byte. Prints a line for each case, and ends
+# with status 1 where one is not as it should be.
 set -u
 
 root=$(cd "$(dirname "${BASH_SOURCE[0]}")/.." && pwd)
@@ -10,12 +12,13 @@ folder=$(mktemp -d)
 trap 'rm -rf "$folder"' EXIT
 cp "$root/crates/rewrite_cli/data/hello" "$folder/hello"
 
-# An executable that reads 64 bytes, writes what it got and exits with code 0.
-python3 - "$folder/echo" <<'PYTHON'
+# Two executables: `echo` reads 64 bytes, writes what it got and exits with code 0; `cat` reads up to 1,000
+# bytes and writes what it got, until there are no more.
+python3 - "$folder" <<'PYTHON'
 import struct
 import sys
 
-WORDS = [
+ECHO = [
     0x00000513,  # addi a0, x0, 0
     0xFC010593,  # addi a1, sp, -64
     0x04000613,  # addi a2, x0, 64
@@ -29,25 +32,56 @@ WORDS = [
     0x05D00893,  # addi a7, x0, 93
     0x00000073,  # ecall
 ]
-code = struct.pack(f"<{len(WORDS)}I", *WORDS)
-size = 120 + len(code)
-ident = b"\x7fELF\x02\x01\x01" + bytes(9)
-header = ident + struct.pack("<HHIQQQIHHHHHH", 2, 243, 1, 0x10078, 64, 0, 0, 64, 56, 1, 0, 0, 0)
-segment = struct.pack("<IIQQQQQQ", 1, 5, 0, 0x10000, 0x10000, size, size, 4096)
-with open(sys.argv[1], "wb") as file:
-    file.write(header + segment + code)
+CAT = [
+    0xC1810593,  # addi a1, sp, -1000
+    0x00000513,  # addi a0, x0, 0
+    0x3E800613,  # addi a2, x0, 1000
+    0x03F00893,  # addi a7, x0, 63
+    0x00000073,  # ecall
+    0x00050C63,  # beq a0, x0, +24
+    0x00050613,  # addi a2, a0, 0
+    0x00100513,  # addi a0, x0, 1
+    0x04000893,  # addi a7, x0, 64
+    0x00000073,  # ecall
+    0xFDDFF06F,  # jal x0, -36
+    0x05D00893,  # addi a7, x0, 93
+    0x00000073,  # ecall
+]
+
+
+def executable(words):
+    code = struct.pack(f"<{len(words)}I", *words)
+    size = 120 + len(code)
+    ident = b"\x7fELF\x02\x01\x01" + bytes(9)
+    header = ident + struct.pack("<HHIQQQIHHHHHH", 2, 243, 1, 0x10078, 64, 0, 0, 64, 56, 1, 0, 0, 0)
+    segment = struct.pack("<IIQQQQQQ", 1, 5, 0, 0x10000, 0x10000, size, size, 4096)
+    return header + segment + code
+
+
+for name, words in [("echo", ECHO), ("cat", CAT)]:
+    with open(f"{sys.argv[1]}/{name}", "wb") as file:
+        file.write(executable(words))
 PYTHON
+
+# A copy of the program that every user may run.
+cp "$program" "$folder/rewrite_cli"
+chmod 755 "$folder" "$folder/rewrite_cli"
+program=$folder/rewrite_cli
 
 bad=0
 good=0
 
-# case NAME STATUS OUTPUT REPORT: compares the last run's status, output and report.
+# case_is NAME STATUS OUTPUT REPORT: compares the last run's status, output and report, whose lines each end
+# with a line feed.
 case_is() {
-    if [ "$status" = "$2" ] && [ "$(cat "$folder/out")" = "$3" ] && [ "$(cat "$folder/report")" = "$4" ]; then
+    printf '%s' "$3" >"$folder/want-out"
+    printf '%s' "${4:+$4$'\n'}" >"$folder/want-report"
+    if [ "$status" = "$2" ] && cmp -s "$folder/out" "$folder/want-out" &&
+        cmp -s "$folder/report" "$folder/want-report"; then
         echo "ok: $1"
         good=$((good + 1))
     else
-        echo "NOT OK: $1: status $status, output '$(cat "$folder/out")', report '$(cat "$folder/report")'"
+        echo "NOT OK: $1: status $status, output '$(head -c 200 "$folder/out")', report '$(cat "$folder/report")'"
         bad=$((bad + 1))
     fi
 }
@@ -60,44 +94,145 @@ run() {
 }
 
 counts=$'hart 0 instructions 9\nsteps 9\nexit 0'
+echo_counts=$'hart 0 instructions 12\nsteps 12\nexit 0'
+usage='usage: list FILE | rewrite FILE NEW | run FILE HARTS [FUEL [DUMP]] | replay FILE HARTS ORDER | make KIND N NEW'
+hello=$'hello\n'
+
+# ---- words
+
+run bash -c "'$program' >out 2>report </dev/null"
+case_is 'no words' 123 '' "$usage"
+run bash -c "'$program' run hello 1 '' >out 2>report </dev/null"
+case_is 'an empty word is a word' 123 '' "$usage"
+run bash -c "'$program' '' run hello 1 >out 2>report </dev/null"
+case_is 'an empty word in front' 123 '' "$usage"
+run bash -c "'$program' run hello 1 9 dump x >out 2>report </dev/null; status=\$?; [ ! -e dump ] && exit \$status"
+case_is 'a sixth word' 123 '' "$usage"
+
+# ---- files that are loaded
+
 run bash -c "'$program' run hello 1 >out 2>report </dev/null"
-case_is 'a file that is there' 0 hello "$counts"
+case_is 'a file that is there' 0 "$hello" "$counts"
 run bash -c "'$program' run missing 1 >out 2>report </dev/null"
 case_is 'a file that is missing' 125 '' store-fault
 run bash -c "'$program' run . 1 >out 2>report </dev/null"
 case_is 'a folder in place of a file' 125 '' store-fault
+run bash -c ": >empty; '$program' run empty 1 >out 2>report </dev/null"
+case_is 'an empty file' 124 '' 'refused not-elf'
+run bash -c "mkfifo fifo; (cat hello >fifo &); timeout 20 '$program' run fifo 1 >out 2>report </dev/null"
+case_is 'a pipe in place of a file: it is read once' 0 "$hello" "$counts"
+
+# ---- streams
+
 run bash -c "'$program' run hello 1 >&- 2>report </dev/null"
 case_is 'a closed output: no line of a report' 127 '' ''
 run bash -c "'$program' run hello 1 >/dev/full 2>report </dev/null"
 case_is 'a full output: no line of a report' 127 '' ''
 run bash -c "'$program' run hello 1 >out 2>&- </dev/null"
-case_is 'a closed report: all of the output' 127 hello ''
+case_is 'a closed report: all of the output' 127 "$hello" ''
 run bash -c "printf hello | '$program' run echo 1 >out 2>report"
-case_is 'an input that is read to its end' 0 hello $'hart 0 instructions 12\nsteps 12\nexit 0'
+case_is 'an input that is read to its end' 0 hello "$echo_counts"
 run bash -c "(printf he; sleep 1; printf llo) | '$program' run echo 1 >out 2>report"
-case_is 'an input that comes in two parts' 0 hello $'hart 0 instructions 12\nsteps 12\nexit 0'
+case_is 'an input that comes in two parts' 0 hello "$echo_counts"
 run bash -c "'$program' run echo 1 >out 2>report <&-"
 case_is 'a closed input' 126 '' read-fault
 run bash -c "'$program' run echo 1 >out 2>report <."
 case_is 'a folder as the input' 126 '' read-fault
 
+# 300,007 bytes of which no 256 in a row are those before or behind them.
+python3 -c "
+import sys
+sys.stdout.buffer.write(bytes((i * i // 7 + i // 251) % 256 for i in range(300007)))
+" >"$folder/large"
+run bash -c "'$program' run cat 1 <large >copy 2>/dev/null; status=\$?; cmp -s large copy && exit \$status"
+case_is 'a long input and output' 0 '' ''
+run bash -c "python3 -c \"
+import sys
+data, at = open('large', 'rb').read(), 0
+for turn in range(len(data)):
+    size = [1, 7, 513, 4097, 64, 1001][turn % 6]
+    sys.stdout.buffer.write(data[at:at + size])
+    sys.stdout.buffer.flush()
+    at += size
+    if at >= len(data):
+        break
+\" | '$program' run cat 1 2>/dev/null | cat >copy; status=\${PIPESTATUS[1]}; cmp -s large copy && exit \$status"
+case_is 'a long input in odd pieces' 0 '' ''
+head -c 10 "$folder/large" >"$folder/want"
+run bash -c "timeout 20 '$program' run cat 1 <large 2>report | head -c 10 >got; status=\${PIPESTATUS[0]}; cmp -s want got && exit \$status"
+case_is 'a reader that goes away' 127 '' ''
+run bash -c "{ '$program' run cat 1 >/dev/full 2>report; status=\$?; [ \$(wc -c) = 299007 ] && exit \$status; } <large"
+case_is 'nothing is read where the output has failed' 127 '' ''
+run bash -c "timeout 20 python3 -c \"
+import os, subprocess, sys
+ends = os.pipe()
+os.set_blocking(ends[0], False)
+sys.exit(subprocess.call(['$program', 'run', 'echo', '1'], stdin=ends[0]))
+\" >out 2>report"
+case_is 'an input that has nothing yet and does not wait' 126 '' read-fault
+run bash -c "timeout 20 python3 -c \"
+import os, subprocess, sys
+ends = os.pipe()
+os.set_blocking(ends[1], False)
+status = subprocess.call(['$program', 'run', 'cat', '1'], stdin=open('large'), stdout=ends[1])
+os.close(ends[1])
+got = os.fdopen(ends[0], 'rb').read()
+sys.exit(status if got and open('large', 'rb').read().startswith(got) else 1)
+\" 2>report"
+case_is 'an output that is full and does not wait' 127 '' ''
+
+# ---- memory that is saved
+
 run bash -c "'$program' run hello 1 8 dump >out 2>report </dev/null; status=\$?; [ ! -e dump ] && exit \$status"
-case_is 'as many instructions as do not end: no memory is saved' 121 hello spent
+case_is 'as many instructions as do not end: no memory is saved' 121 "$hello" spent
 run bash -c "'$program' run hello 1 9 dump >out 2>report </dev/null; status=\$?; [ \$(stat -c %s dump) = 25165992 ] && exit \$status"
-case_is 'the memory at an ending' 0 hello "$counts"
+case_is 'the memory at an ending' 0 "$hello" "$counts"
 run bash -c "head -c 162 dump | cmp -s - hello && head -c 25165830 /dev/zero | cmp -s - <(tail -c +163 dump)"
 case_is 'the file, and zeros behind it' 0 '' ''
 run bash -c "'$program' run hello 1 9 missing/dump >out 2>report </dev/null"
-case_is 'a memory that is saved to a missing folder' 125 hello store-fault
+case_is 'a memory that is saved to a missing folder' 125 "$hello" store-fault
+run bash -c "'$program' run hello 1 9 /dev/full >out 2>report </dev/null; status=\$?; [ -c /dev/full ] && exit \$status"
+case_is 'a memory that is saved to a full device' 125 "$hello" store-fault
+run bash -c "'$program' run hello 1 9 /dev/null >out 2>report </dev/null; status=\$?; [ -c /dev/null ] && exit \$status"
+case_is 'a memory that is saved to a device' 0 "$hello" "$counts"
+run bash -c "mkfifo pipe; cat pipe >piped & timeout 20 '$program' run hello 1 9 pipe >out 2>report </dev/null; status=\$?; wait; cmp -s dump piped && [ -p pipe ] && exit \$status"
+case_is 'a memory that is saved to a pipe' 0 "$hello" "$counts"
+
+# ---- files that are rewritten
 
 run bash -c "'$program' rewrite hello new >out 2>report </dev/null"
 case_is 'a file that is rewritten' 0 '' 'rewritten entries 0 words 0'
 run bash -c "'$program' run new 1 >out 2>report </dev/null"
-case_is 'a rewritten file' 0 hello "$counts"
+case_is 'a rewritten file' 0 "$hello" "$counts"
 run bash -c "'$program' rewrite new newer >out 2>report </dev/null; status=\$?; [ ! -e newer ] && exit \$status"
 case_is 'a refused file: nothing is saved' 124 '' 'refused marked 1'
 run bash -c "'$program' rewrite hello missing/new >out 2>report </dev/null"
 case_is 'a folder to save to that is missing' 125 '' store-fault
+run bash -c "cp hello same; chmod 750 same; '$program' rewrite same same >out 2>report </dev/null; status=\$?; cmp -s new same && [ \$(stat -c %a same) = 750 ] && exit \$status"
+case_is 'a file that is saved over itself keeps its mode' 0 '' 'rewritten entries 0 words 0'
+run bash -c "umask 027; '$program' rewrite hello masked >out 2>report </dev/null; status=\$?; [ \$(stat -c %a masked) = 640 ] && exit \$status"
+case_is 'a new file has the mode that the mask leaves' 0 '' 'rewritten entries 0 words 0'
+run bash -c "mkdir far; cp hello far/real; ln -s far/real link; '$program' rewrite hello link >out 2>report </dev/null; status=\$?; [ -L link ] && cmp -s new far/real && exit \$status"
+case_is 'a link is followed' 0 '' 'rewritten entries 0 words 0'
+run bash -c "ln -s far/made dangling; '$program' rewrite hello dangling >out 2>report </dev/null; status=\$?; [ -L dangling ] && cmp -s new far/made && exit \$status"
+case_is 'a link to a file that is made' 0 '' 'rewritten entries 0 words 0'
+head -c 3000 /dev/zero | cat "$folder/hello" - >"$folder/padded"
+cp "$folder/padded" "$folder/only"
+run bash -c "trap '' XFSZ; ulimit -f 2; '$program' rewrite only only >out 2>report </dev/null; status=\$?; cmp -s padded only && exit \$status"
+case_is 'a full disk: the old file stays whole' 125 '' store-fault
+run bash -c "trap '' XFSZ; ulimit -f 2; '$program' rewrite padded made >out 2>report </dev/null; status=\$?; [ ! -e made ] && exit \$status"
+case_is 'a full disk: no file is left' 125 '' store-fault
+mkdir "$folder/locked"
+cp "$folder/hello" "$folder/locked/old"
+chmod 666 "$folder/locked/old"
+chmod 555 "$folder/locked"
+as_user=()
+[ "$(id -u)" != 0 ] || as_user=(setpriv --reuid=65534 --regid=65534 --clear-groups)
+run bash -c "${as_user[*]} '$program' rewrite hello locked/old >out 2>report </dev/null; status=\$?; cmp -s hello locked/old && exit \$status"
+case_is 'a folder that may not be written: the old file stays' 125 '' store-fault
+chmod 755 "$folder/locked"
+run bash -c "[ -z \"\$(find . -name '.saving*')\" ]"
+case_is 'no file of its own is left' 0 '' ''
 run bash -c "'$program' list hello >out 2>report </dev/null"
 case_is 'a list of no loops' 0 '' ''
 run bash -c "'$program' list new >out 2>report </dev/null"

@@ -3,6 +3,7 @@ ghost use Rattle.outside_ports.specs.Fakes.{next_number};
 ghost use Rattle.outside_ports.specs.Ports.{Files, Lacks, PassesLimit, Rose, SameButIn, SavedIn};
 
 use crate::ports::{SaveErr, Store, StoreErr};
+use crate::replacing::save_file;
 use std::alloc::Global;
 use std::fs;
 use std::io::{ErrorKind, Read};
@@ -57,24 +58,24 @@ impl<R: Files> Store for FileStore<'_, R> {
         answer
     }
 
-    /// Makes the file or replaces what is in it. Each error is a fault, after which the file may be
-    /// missing, as before, or cut off anywhere.
-    fn save(&mut self, _alloc: Global, name: &str, bytes: &[u8]) -> Result<(), SaveErr>
-        ensures ok { OnOk result (self.new ≡ self.old) }
-        ensures err { OnErr result (self.new ≡ next_number self.old) }
+    /// Makes the file or replaces what is in it, as a whole: the bytes are written to a file beside it,
+    /// which then takes its name, so that after a fault the old file is as it was and nothing else is
+    /// left. A file that is replaced keeps its mode, and its owner where that may be kept. A symbolic link
+    /// is followed. What is no regular file, as a device or a pipe, is written as it is.
+    fn save(&mut self, alloc: Global, name: &str, bytes: &[u8]) -> Result<(), SaveErr>
+        ensures fault { result ≡ Err SaveErr.Failed → self.new ≡ next_number self.old }
+        ensures no_fault { result ≢ Err SaveErr.Failed → self.new ≡ self.old }
 
         ensures saved { OnOk result ((m : Files) → None ≡ Some m → SavedIn m None name.now bytes.now) }
         ensures failed { IsErrOf result SaveErr.Failed → Rose self.old self.new }
         ensures others { IsErrOf result SaveErr.Failed → (m : Files) → None ≡ Some m → SameButIn m None name.now }
         ensures never_falls { self.old ≤ self.new }
     {
-        match fs::write(self.rt, name, bytes) {
-            Ok(()) => Ok(()),
-            Err(_) => {
-                self.faults = self.faults.saturating_add(1);
-                Err(SaveErr::Failed)
-            }
+        let answer = save_file(self.rt, alloc, name, bytes);
+        if let Err(SaveErr::Failed) = &answer {
+            self.faults = self.faults.saturating_add(1);
         }
+        answer
     }
 }
 

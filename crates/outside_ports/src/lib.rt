@@ -10,6 +10,7 @@ pub mod mem_sink;
 pub mod mem_source;
 pub mod mem_store;
 pub mod ports;
+mod replacing;
 
 pub use adapters::{ErrSink, NoGate, StdSink, StdSource};
 pub use file_store::FileStore;

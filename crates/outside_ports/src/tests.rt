@@ -4,9 +4,12 @@ use crate::{
     ErrSink, Failed, FileStore, Gate, MemSink, MemSource, MemStore, NoGate, SaveErr, Sink, Source,
     StdSink, StdSource, Store, StoreErr,
 };
-use std::alloc::Global;
-use std::fs;
+use std::alloc::{AllocError, Global};
+use std::fs::{self, Permissions};
 use std::io::{self, ErrorKind, Read, Write};
+use std::os::unix::fs::{PermissionsExt, symlink};
+use std::path::PathBuf;
+use std::rt::Files;
 use std::test::Fail;
 
 // One read of up to four bytes: how many, and the first of them.
@@ -96,27 +99,35 @@ fn store_tells_a_missing_name_from_a_failing_call(rt: HostRuntime) -> Result<(),
     Ok(())
 }
 
-// A device that is interrupted at its first call, moves one byte in its second, and then fails.
+// What a device was asked.
 #[derive(Drop)]
-struct Device {
-    calls: u8,
+struct Calls {
+    moves: u32,
+    flushes: u32,
 }
 
-impl Device {
+// A device that is interrupted at its first call, moves one byte in its second, and then fails in one way.
+#[derive(Drop)]
+struct Device<'a> {
+    calls: &'a mut Calls,
+    error: ErrorKind,
+}
+
+impl Device<'_> {
     fn turn(&mut self) -> io::Result<usize>
         ensures { IfOk result (λ k. k ≡ 1) }
     {
-        let call = self.calls;
-        self.calls = call.saturating_add(1);
+        let call = self.calls.moves;
+        self.calls.moves = call.saturating_add(1);
         match call {
             0 => Err(io::Error::from(ErrorKind::Interrupted)),
             1 => Ok(1),
-            _ => Err(io::Error::from(ErrorKind::Other)),
+            _ => Err(io::Error::from(self.error)),
         }
     }
 }
 
-impl Read for Device {
+impl Read for Device<'_> {
     fn read(&mut self, buf: &mut [u8]) -> io::Result<usize> {
         if buf.is_empty() {
             return Ok(0);
@@ -127,7 +138,7 @@ impl Read for Device {
     }
 }
 
-impl Write for Device {
+impl Write for Device<'_> {
     fn write(&mut self, buf: &[u8]) -> io::Result<usize> {
         if buf.is_empty() {
             return Ok(0);
@@ -136,19 +147,49 @@ impl Write for Device {
     }
 
     fn flush(&mut self) -> io::Result<()> {
+        self.calls.flushes = self.calls.flushes.saturating_add(1);
         Ok(())
     }
 }
 
+// A sink over a device takes one byte and then fails, and tries no failed call again.
+fn writes_once<S: Sink>(sink: &mut S) -> bool {
+    write_to(sink, "ab") == Ok(1) && write_to(sink, "b") == Err(Failed)
+}
+
 #[test]
-fn adapters_try_an_interrupted_call_again(rt: HostRuntime) {
-    let mut source = StdSource::new(Device { calls: 0 });
-    let mut sink = StdSink::new(Device { calls: 0 });
-    let mut messages = ErrSink::new(Device { calls: 0 });
-    for (read, wrote) in [(Ok((1, b'x')), Ok(1)), (Err(Failed), Err(Failed))] {
-        assert!(rt; read_from(&mut source) == read);
-        assert!(rt; write_to(&mut sink, "ab") == wrote);
-        assert!(rt; write_to(&mut messages, "ab") == wrote);
+fn adapters_try_an_interrupted_call_again_and_no_other(rt: HostRuntime) {
+    for error in [
+        ErrorKind::Other,
+        ErrorKind::BrokenPipe,
+        ErrorKind::WouldBlock,
+        ErrorKind::UnexpectedEof,
+        ErrorKind::TimedOut,
+        ErrorKind::WriteZero,
+    ] {
+        for turn in 0..3 {
+            let mut calls = Calls {
+                moves: 0,
+                flushes: 0,
+            };
+            let device = Device {
+                calls: &mut calls,
+                error,
+            };
+            let flushes = if turn == 0 { 0 } else { 1 };
+            let passed = match turn {
+                0 => {
+                    let mut source = StdSource::new(device);
+                    let first = read_from(&mut source);
+                    first == Ok((1, b'x')) && read_from(&mut source) == Err(Failed)
+                }
+                1 => writes_once(&mut StdSink::new(device)),
+                _ => writes_once(&mut ErrSink::new(device)),
+            };
+            assert!(rt; passed, "at adapter {turn}");
+            assert!(rt; calls.moves == 3, "at adapter {turn}");
+            assert!(rt; calls.flushes == flushes, "at adapter {turn}");
+        }
     }
     pass(&NoGate);
 }
@@ -169,31 +210,108 @@ fn adapters_move_bytes_in_order(rt: HostRuntime) -> Result<(), Fail> {
     Ok(())
 }
 
+// A folder that was not there.
+fn fresh_folder(rt: &HostRuntime) -> io::Result<PathBuf> {
+    for number in 0..1000 {
+        let name = format!(in rt.alloc(); "/tmp/outside_ports-{number}")?;
+        match fs::create_dir(rt, name.as_str()) {
+            Ok(()) => return Ok(PathBuf::from(name)),
+            Err(error) if error.kind() == ErrorKind::AlreadyExists => {}
+            Err(error) => return Err(error),
+        }
+    }
+    Err(io::Error::from(ErrorKind::AlreadyExists))
+}
+
+// The path of a name in a folder.
+fn within(rt: &HostRuntime, folder: &PathBuf, name: &str) -> Result<PathBuf, AllocError> {
+    folder.as_path().join(rt.alloc(), name)
+}
+
+// How many names a folder has.
+fn names_in(rt: &HostRuntime, folder: &PathBuf) -> io::Result<u32> {
+    let mut count: u32 = 0;
+    for entry in fs::read_dir(rt, folder.as_path())? {
+        let _ = entry?;
+        count = count.saturating_add(1);
+    }
+    Ok(count)
+}
+
 #[test]
 fn files_are_saved_and_loaded(rt: HostRuntime) -> Result<(), Fail> {
-    let name = "/tmp/outside_ports_files_are_saved_and_loaded";
+    let folder = fresh_folder(&rt)?;
+    let long = vec![in rt.alloc(); b'l'; 100_000]?;
     let mut files = FileStore::new(&rt);
     for (name, bytes, want) in [
-        (name, "12345", Ok(())),
-        (name, "abc", Ok(())),
-        ("/tmp", "abc", Err(SaveErr::Failed)),
+        ("new", b"12345".as_slice(), Ok(())),
+        ("new", long.as_slice(), Ok(())),
+        ("new", b"abc".as_slice(), Ok(())),
+        ("empty", b"".as_slice(), Ok(())),
+        (".", b"abc".as_slice(), Err(SaveErr::Failed)),
+        ("missing/new", b"abc".as_slice(), Err(SaveErr::Failed)),
     ] {
-        assert!(rt;
-            files.save(rt.alloc(), name, bytes.as_bytes()) == want,
-            "at {name}"
-        );
+        let path = within(&rt, &folder, name)?;
+        let path = path.as_path().as_str();
+        assert!(rt; files.save(rt.alloc(), path, bytes) == want, "at {name}");
     }
     for (name, limit, want) in [
-        (name, 3, Ok((3, b'a'))),
-        (name, 2, Err(StoreErr::TooLong)),
-        ("/tmp", 3, Err(StoreErr::Failed)),
-        ("/tmp/outside_ports_no_such_file", 3, Err(StoreErr::Failed)),
+        ("new", 3, Ok((3, b'a'))),
+        ("new", 2, Err(StoreErr::TooLong)),
+        ("empty", 0, Ok((0, b'-'))),
+        (".", 3, Err(StoreErr::Failed)),
+        ("missing", 3, Err(StoreErr::Failed)),
     ] {
+        let path = within(&rt, &folder, name)?;
+        let path = path.as_path().as_str();
         assert!(rt;
-            load_from(rt.alloc(), &mut files, name, limit) == want,
+            load_from(rt.alloc(), &mut files, path, limit) == want,
             "at {name}"
         );
     }
-    fs::remove_file(&rt, name)?;
+    assert!(rt; names_in(&rt, &folder)? == 2);
+    fs::remove_dir_all(&rt, folder.as_path())?;
+    Ok(())
+}
+
+#[test]
+fn saving_follows_links_and_keeps_modes(rt: HostRuntime) -> Result<(), Fail> {
+    let folder = fresh_folder(&rt)?;
+    let real = within(&rt, &folder, "real")?;
+    let mut files = FileStore::new(&rt);
+    for (link, target) in [
+        ("link", "real"),
+        ("second", "link"),
+        ("dangling", "made"),
+        ("loop", "loop"),
+    ] {
+        symlink(&rt, target, within(&rt, &folder, link)?.as_path())?;
+    }
+    fs::write(&rt, real.as_path(), b"old".as_slice())?;
+    rt.set_permissions(real.as_path().as_str(), Permissions::from_mode(0o640))?;
+    for (name, bytes, want) in [
+        ("link", "a", Ok(())),
+        ("second", "bc", Ok(())),
+        ("dangling", "def", Ok(())),
+        ("loop", "g", Err(SaveErr::Failed)),
+    ] {
+        let path = within(&rt, &folder, name)?;
+        let path = path.as_path();
+        let saved = files.save(rt.alloc(), path.as_str(), bytes.as_bytes());
+        assert!(rt; saved == want, "at {name}");
+        assert!(rt; fs::symlink_metadata(&rt, path)?.is_symlink(), "at {name}");
+    }
+    for (name, want) in [("real", Ok((2, b'b'))), ("made", Ok((3, b'd')))] {
+        let path = within(&rt, &folder, name)?;
+        let path = path.as_path().as_str();
+        assert!(rt;
+            load_from(rt.alloc(), &mut files, path, 9) == want,
+            "at {name}"
+        );
+    }
+    let mode = fs::metadata(&rt, real.as_path())?.permissions().mode();
+    assert!(rt; mode & 0o777 == 0o640);
+    assert!(rt; names_in(&rt, &folder)? == 6);
+    fs::remove_dir_all(&rt, folder.as_path())?;
     Ok(())
 }
