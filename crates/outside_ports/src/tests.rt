@@ -74,13 +74,15 @@ fn sink_fails_its_second_call_and_where_it_is_full(rt: HostRuntime) -> Result<()
 
 #[test]
 fn store_tells_a_missing_name_from_a_failing_call(rt: HostRuntime) -> Result<(), Fail> {
-    let mut store = MemStore::new(rt.alloc(), vec![in rt.alloc(); 3, 5]?);
+    let mut store = MemStore::new(rt.alloc(), vec![in rt.alloc(); 3, 6]?);
     store.put("a", b"xyz")?;
+    store.put("empty", b"")?;
     for (name, limit, want) in [
         ("b", 9, Err(StoreErr::Failed)),
         ("a", 2, Err(StoreErr::TooLong)),
         ("a", 3, Ok((3, b'x'))),
         ("a", 3, Err(StoreErr::Failed)),
+        ("empty", 0, Ok((0, b'-'))),
     ] {
         assert!(rt;
             load_from(rt.alloc(), &mut store, name, limit) == want,
@@ -93,6 +95,8 @@ fn store_tells_a_missing_name_from_a_failing_call(rt: HostRuntime) -> Result<(),
             "at {bytes}"
         );
     }
+    assert!(rt; store.save(rt.alloc(), "a", b"") == Ok(()));
+    assert!(rt; load_from(rt.alloc(), &mut store, "a", 3) == Ok((0, b'-')));
     for (name, want) in [("a", true), ("12", true), ("3", false), ("45", true)] {
         assert!(rt; store.get(name).is_some() == want, "at {name}");
     }
