@@ -86,11 +86,14 @@ case_is() {
     fi
 }
 
+# run COMMAND [CONDITION]: runs a command of the shell in the folder, where `rewrite_cli` is the program, and
+# then looks whether the condition holds.
 run() {
     : >"$folder/out"
     : >"$folder/report"
-    (cd "$folder" && "$@")
+    (cd "$folder" && PATH=$folder:$PATH bash -c "$1")
     status=$?
+    (cd "$folder" && bash -c "${2:-true}") || status="$status, but not $2"
 }
 
 counts=$'hart 0 instructions 9\nsteps 9\nexit 0'
@@ -100,127 +103,145 @@ hello=$'hello\n'
 
 # ---- words
 
-run bash -c "'$program' >out 2>report </dev/null"
+run 'rewrite_cli >out 2>report </dev/null'
 case_is 'no words' 123 '' "$usage"
-run bash -c "'$program' run hello 1 '' >out 2>report </dev/null"
+run "rewrite_cli run hello 1 '' >out 2>report </dev/null"
 case_is 'an empty word is a word' 123 '' "$usage"
-run bash -c "'$program' '' run hello 1 >out 2>report </dev/null"
+run "rewrite_cli '' run hello 1 >out 2>report </dev/null"
 case_is 'an empty word in front' 123 '' "$usage"
-run bash -c "'$program' run hello 1 9 dump x >out 2>report </dev/null; status=\$?; [ ! -e dump ] && exit \$status"
+run 'rewrite_cli run hello 1 9 dump x >out 2>report </dev/null' \
+    '[ ! -e dump ]'
 case_is 'a sixth word' 123 '' "$usage"
 
 # ---- files that are loaded
 
-run bash -c "'$program' run hello 1 >out 2>report </dev/null"
+run 'rewrite_cli run hello 1 >out 2>report </dev/null'
 case_is 'a file that is there' 0 "$hello" "$counts"
-run bash -c "'$program' run missing 1 >out 2>report </dev/null"
+run 'rewrite_cli run missing 1 >out 2>report </dev/null'
 case_is 'a file that is missing' 125 '' store-fault
-run bash -c "'$program' run . 1 >out 2>report </dev/null"
+run 'rewrite_cli run . 1 >out 2>report </dev/null'
 case_is 'a folder in place of a file' 125 '' store-fault
-run bash -c ": >empty; '$program' run empty 1 >out 2>report </dev/null"
+run ': >empty; rewrite_cli run empty 1 >out 2>report </dev/null'
 case_is 'an empty file' 124 '' 'refused not-elf'
-run bash -c "mkfifo fifo; (cat hello >fifo &); timeout 20 '$program' run fifo 1 >out 2>report </dev/null"
+run 'mkfifo fifo; (cat hello >fifo &); timeout 20 rewrite_cli run fifo 1 >out 2>report </dev/null'
 case_is 'a pipe in place of a file: it is read once' 0 "$hello" "$counts"
 
 # ---- streams
 
-run bash -c "'$program' run hello 1 >&- 2>report </dev/null"
+run 'rewrite_cli run hello 1 >&- 2>report </dev/null'
 case_is 'a closed output: no line of a report' 127 '' ''
-run bash -c "'$program' run hello 1 >/dev/full 2>report </dev/null"
+run 'rewrite_cli run hello 1 >/dev/full 2>report </dev/null'
 case_is 'a full output: no line of a report' 127 '' ''
-run bash -c "'$program' run hello 1 >out 2>&- </dev/null"
+run 'rewrite_cli run hello 1 >out 2>&- </dev/null'
 case_is 'a closed report: all of the output' 127 "$hello" ''
-run bash -c "printf hello | '$program' run echo 1 >out 2>report"
+run 'printf hello | rewrite_cli run echo 1 >out 2>report'
 case_is 'an input that is read to its end' 0 hello "$echo_counts"
-run bash -c "(printf he; sleep 1; printf llo) | '$program' run echo 1 >out 2>report"
+run '(printf he; sleep 1; printf llo) | rewrite_cli run echo 1 >out 2>report'
 case_is 'an input that comes in two parts' 0 hello "$echo_counts"
-run bash -c "'$program' run echo 1 >out 2>report <&-"
+run 'rewrite_cli run echo 1 >out 2>report <&-'
 case_is 'a closed input' 126 '' read-fault
-run bash -c "'$program' run echo 1 >out 2>report <."
+run 'rewrite_cli run echo 1 >out 2>report <.'
 case_is 'a folder as the input' 126 '' read-fault
 
-# 300,007 bytes of which no 256 in a row are those before or behind them.
-python3 -c "
+# `large` has 300,007 bytes, in no order that repeats soon; `pieces` writes them in odd pieces, and
+# `without-waiting` runs the program with an input or an output that answers at once that it is not ready.
+python3 -c '
 import sys
 sys.stdout.buffer.write(bytes((i * i // 7 + i // 251) % 256 for i in range(300007)))
-" >"$folder/large"
-run bash -c "'$program' run cat 1 <large >copy 2>/dev/null; status=\$?; cmp -s large copy && exit \$status"
-case_is 'a long input and output' 0 '' ''
-run bash -c "python3 -c \"
+' >"$folder/large"
+cat >"$folder/pieces" <<'PYTHON'
 import sys
-data, at = open('large', 'rb').read(), 0
-for turn in range(len(data)):
+
+data, at, turn = open("large", "rb").read(), 0, 0
+while at < len(data):
     size = [1, 7, 513, 4097, 64, 1001][turn % 6]
-    sys.stdout.buffer.write(data[at:at + size])
+    sys.stdout.buffer.write(data[at : at + size])
     sys.stdout.buffer.flush()
-    at += size
-    if at >= len(data):
-        break
-\" | '$program' run cat 1 2>/dev/null | cat >copy; status=\${PIPESTATUS[1]}; cmp -s large copy && exit \$status"
-case_is 'a long input in odd pieces' 0 '' ''
+    at, turn = at + size, turn + 1
+PYTHON
+cat >"$folder/without-waiting" <<'PYTHON'
+import os
+import subprocess
+import sys
+
+source, sink = os.pipe()
+if sys.argv[1] == "input":
+    os.set_blocking(source, False)
+    sys.exit(subprocess.call(["rewrite_cli", "run", "echo", "1"], stdin=source))
+os.set_blocking(sink, False)
+status = subprocess.call(["rewrite_cli", "run", "cat", "1"], stdin=open("large"), stdout=sink)
+os.close(sink)
+with os.fdopen(source, "rb") as got, open("got", "wb") as copy:
+    copy.write(got.read())
+sys.exit(status)
+PYTHON
 head -c 10 "$folder/large" >"$folder/want"
-run bash -c "timeout 20 '$program' run cat 1 <large 2>report | head -c 10 >got; status=\${PIPESTATUS[0]}; cmp -s want got && exit \$status"
+run 'rewrite_cli run cat 1 <large >copy 2>/dev/null' 'cmp -s large copy'
+case_is 'a long input and output' 0 '' ''
+run 'python3 pieces | rewrite_cli run cat 1 2>/dev/null | cat >copy; exit ${PIPESTATUS[1]}' 'cmp -s large copy'
+case_is 'a long input in odd pieces' 0 '' ''
+run 'timeout 20 rewrite_cli run cat 1 <large 2>report | head -c 10 >got; exit ${PIPESTATUS[0]}' 'cmp -s want got'
 case_is 'a reader that goes away' 127 '' ''
-run bash -c "{ '$program' run cat 1 >/dev/full 2>report; status=\$?; [ \$(wc -c) = 299007 ] && exit \$status; } <large"
+run '{ rewrite_cli run cat 1 >/dev/full 2>report; status=$?; wc -c >left; exit $status; } <large' \
+    '[ $(cat left) = 299007 ]'
 case_is 'nothing is read where the output has failed' 127 '' ''
-run bash -c "timeout 20 python3 -c \"
-import os, subprocess, sys
-ends = os.pipe()
-os.set_blocking(ends[0], False)
-sys.exit(subprocess.call(['$program', 'run', 'echo', '1'], stdin=ends[0]))
-\" >out 2>report"
+run 'timeout 20 python3 without-waiting input >out 2>report'
 case_is 'an input that has nothing yet and does not wait' 126 '' read-fault
-run bash -c "timeout 20 python3 -c \"
-import os, subprocess, sys
-ends = os.pipe()
-os.set_blocking(ends[1], False)
-status = subprocess.call(['$program', 'run', 'cat', '1'], stdin=open('large'), stdout=ends[1])
-os.close(ends[1])
-got = os.fdopen(ends[0], 'rb').read()
-sys.exit(status if got and open('large', 'rb').read().startswith(got) else 1)
-\" 2>report"
+run 'timeout 20 python3 without-waiting output 2>report' '[ -s got ] && cmp -s got <(head -c $(stat -c %s got) large)'
 case_is 'an output that is full and does not wait' 127 '' ''
 
 # ---- memory that is saved
 
-run bash -c "'$program' run hello 1 8 dump >out 2>report </dev/null; status=\$?; [ ! -e dump ] && exit \$status"
+run 'rewrite_cli run hello 1 8 dump >out 2>report </dev/null' \
+    '[ ! -e dump ]'
 case_is 'as many instructions as do not end: no memory is saved' 121 "$hello" spent
-run bash -c "'$program' run hello 1 9 dump >out 2>report </dev/null; status=\$?; [ \$(stat -c %s dump) = 25165992 ] && exit \$status"
+run 'rewrite_cli run hello 1 9 dump >out 2>report </dev/null' \
+    '[ $(stat -c %s dump) = 25165992 ]'
 case_is 'the memory at an ending' 0 "$hello" "$counts"
-run bash -c "head -c 162 dump | cmp -s - hello && head -c 25165830 /dev/zero | cmp -s - <(tail -c +163 dump)"
+run 'head -c 162 dump | cmp -s - hello && head -c 25165830 /dev/zero | cmp -s - <(tail -c +163 dump)'
 case_is 'the file, and zeros behind it' 0 '' ''
-run bash -c "'$program' run hello 1 9 missing/dump >out 2>report </dev/null"
+run 'rewrite_cli run hello 1 9 missing/dump >out 2>report </dev/null'
 case_is 'a memory that is saved to a missing folder' 125 "$hello" store-fault
-run bash -c "'$program' run hello 1 9 /dev/full >out 2>report </dev/null; status=\$?; [ -c /dev/full ] && exit \$status"
+run 'rewrite_cli run hello 1 9 /dev/full >out 2>report </dev/null' \
+    '[ -c /dev/full ]'
 case_is 'a memory that is saved to a full device' 125 "$hello" store-fault
-run bash -c "'$program' run hello 1 9 /dev/null >out 2>report </dev/null; status=\$?; [ -c /dev/null ] && exit \$status"
+run 'rewrite_cli run hello 1 9 /dev/null >out 2>report </dev/null' \
+    '[ -c /dev/null ]'
 case_is 'a memory that is saved to a device' 0 "$hello" "$counts"
-run bash -c "mkfifo pipe; cat pipe >piped & timeout 20 '$program' run hello 1 9 pipe >out 2>report </dev/null; status=\$?; wait; cmp -s dump piped && [ -p pipe ] && exit \$status"
+run 'mkfifo pipe; cat pipe >piped & timeout 20 rewrite_cli run hello 1 9 pipe >out 2>report </dev/null
+    status=$?; wait; exit $status' '[ -p pipe ] && cmp -s dump piped'
 case_is 'a memory that is saved to a pipe' 0 "$hello" "$counts"
 
 # ---- files that are rewritten
 
-run bash -c "'$program' rewrite hello new >out 2>report </dev/null"
+run 'rewrite_cli rewrite hello new >out 2>report </dev/null'
 case_is 'a file that is rewritten' 0 '' 'rewritten entries 0 words 0'
-run bash -c "'$program' run new 1 >out 2>report </dev/null"
+run 'rewrite_cli run new 1 >out 2>report </dev/null'
 case_is 'a rewritten file' 0 "$hello" "$counts"
-run bash -c "'$program' rewrite new newer >out 2>report </dev/null; status=\$?; [ ! -e newer ] && exit \$status"
+run 'rewrite_cli rewrite new newer >out 2>report </dev/null' \
+    '[ ! -e newer ]'
 case_is 'a refused file: nothing is saved' 124 '' 'refused marked 1'
-run bash -c "'$program' rewrite hello missing/new >out 2>report </dev/null"
+run 'rewrite_cli rewrite hello missing/new >out 2>report </dev/null'
 case_is 'a folder to save to that is missing' 125 '' store-fault
-run bash -c "cp hello same; chmod 750 same; '$program' rewrite same same >out 2>report </dev/null; status=\$?; cmp -s new same && [ \$(stat -c %a same) = 750 ] && exit \$status"
+run 'cp hello same; chmod 750 same; rewrite_cli rewrite same same >out 2>report </dev/null' \
+    'cmp -s new same && [ $(stat -c %a same) = 750 ]'
 case_is 'a file that is saved over itself keeps its mode' 0 '' 'rewritten entries 0 words 0'
-run bash -c "umask 027; '$program' rewrite hello masked >out 2>report </dev/null; status=\$?; [ \$(stat -c %a masked) = 640 ] && exit \$status"
+run 'umask 027; rewrite_cli rewrite hello masked >out 2>report </dev/null' \
+    '[ $(stat -c %a masked) = 640 ]'
 case_is 'a new file has the mode that the mask leaves' 0 '' 'rewritten entries 0 words 0'
-run bash -c "mkdir far; cp hello far/real; ln -s far/real link; '$program' rewrite hello link >out 2>report </dev/null; status=\$?; [ -L link ] && cmp -s new far/real && exit \$status"
+run 'mkdir far; cp hello far/real; ln -s far/real link; rewrite_cli rewrite hello link >out 2>report </dev/null' \
+    '[ -L link ] && cmp -s new far/real'
 case_is 'a link is followed' 0 '' 'rewritten entries 0 words 0'
-run bash -c "ln -s far/made dangling; '$program' rewrite hello dangling >out 2>report </dev/null; status=\$?; [ -L dangling ] && cmp -s new far/made && exit \$status"
+run 'ln -s far/made dangling; rewrite_cli rewrite hello dangling >out 2>report </dev/null' \
+    '[ -L dangling ] && cmp -s new far/made'
 case_is 'a link to a file that is made' 0 '' 'rewritten entries 0 words 0'
 head -c 3000 /dev/zero | cat "$folder/hello" - >"$folder/padded"
 cp "$folder/padded" "$folder/only"
-run bash -c "trap '' XFSZ; ulimit -f 2; '$program' rewrite only only >out 2>report </dev/null; status=\$?; cmp -s padded only && exit \$status"
+run "trap '' XFSZ; ulimit -f 2; rewrite_cli rewrite only only >out 2>report </dev/null" \
+    'cmp -s padded only'
 case_is 'a full disk: the old file stays whole' 125 '' store-fault
-run bash -c "trap '' XFSZ; ulimit -f 2; '$program' rewrite padded made >out 2>report </dev/null; status=\$?; [ ! -e made ] && exit \$status"
+run "trap '' XFSZ; ulimit -f 2; rewrite_cli rewrite padded made >out 2>report </dev/null" \
+    '[ ! -e made ]'
 case_is 'a full disk: no file is left' 125 '' store-fault
 mkdir "$folder/locked"
 cp "$folder/hello" "$folder/locked/old"
@@ -228,16 +249,25 @@ chmod 666 "$folder/locked/old"
 chmod 555 "$folder/locked"
 as_user=()
 [ "$(id -u)" != 0 ] || as_user=(setpriv --reuid=65534 --regid=65534 --clear-groups)
-run bash -c "${as_user[*]} '$program' rewrite hello locked/old >out 2>report </dev/null; status=\$?; cmp -s hello locked/old && exit \$status"
+run "${as_user[*]} rewrite_cli rewrite hello locked/old >out 2>report </dev/null" \
+    'cmp -s hello locked/old'
 case_is 'a folder that may not be written: the old file stays' 125 '' store-fault
-chmod 755 "$folder/locked"
-run bash -c "[ -z \"\$(find . -name '.saving*')\" ]"
+chmod 777 "$folder/locked"
+run "${as_user[*]} rewrite_cli rewrite hello locked/old >out 2>report </dev/null" \
+    'cmp -s new locked/old && [ $(stat -c %a locked/old) = 666 ]'
+case_is 'a folder that may be written' 0 '' 'rewritten entries 0 words 0'
+if [ "$(id -u)" = 0 ]; then
+    run 'cp hello owned; chown 1234:1234 owned; rewrite_cli rewrite hello owned >out 2>report </dev/null' \
+        '[ $(stat -c %u:%g owned) = 1234:1234 ]'
+    case_is 'the owner of a file stays' 0 '' 'rewritten entries 0 words 0'
+fi
+run "[ -z \"\$(find . -name '.saving*')\" ]"
 case_is 'no file of its own is left' 0 '' ''
-run bash -c "'$program' list hello >out 2>report </dev/null"
+run 'rewrite_cli list hello >out 2>report </dev/null'
 case_is 'a list of no loops' 0 '' ''
-run bash -c "'$program' list new >out 2>report </dev/null"
+run 'rewrite_cli list new >out 2>report </dev/null'
 case_is 'a list of a rewritten file' 124 '' 'refused marked 1'
-run bash -c "printf x >>new; '$program' run new 1 >out 2>report </dev/null"
+run 'printf x >>new; rewrite_cli run new 1 >out 2>report </dev/null'
 case_is 'a rewritten file with one byte more' 124 '' 'refused altered 328'
 
 # Files whose program headers are cut, each with one more byte changed: PLACE VALUE, and the refusal.
@@ -248,7 +278,7 @@ while read -r place value refusal; do
     cp "$folder/hello" "$folder/pair"
     change 32 200
     change "$place" "$value"
-    run bash -c "'$program' run pair 1 >out 2>report </dev/null"
+    run 'rewrite_cli run pair 1 >out 2>report </dev/null'
     case_is "cut program headers: $refusal" 124 '' "refused $refusal"
 done <<'PAIRS'
 0 126 not-elf
