@@ -1,9 +1,10 @@
-ghost use Rattle.std.specs.Prelude.{◌≡◌, ◌+◌, ◌-◌, ◌^◌, ◌<◌, ◌≤◌, ◌++◌, ℕ, true, List, [], Some, length, take, drop, IfOk, IfErr, OnOk, OnErr, IsErrOf};
+ghost use Rattle.std.specs.Prelude.{◌≡◌, ◌≢◌, ◌+◌, ◌-◌, ◌^◌, ◌<◌, ◌≤◌, ◌++◌, ℕ, true, List, [], Some, length, take, drop, IfOk, IfErr, OnOk, OnErr, IsErrOf};
 ghost use Rattle.rv64_decode.specs.Area.{readable_of, writable_of};
 ghost use Rattle.rv64_decode.specs.Registers.{with_register};
 ghost use Rattle.outside_ports.specs.Ports.{Rose};
 ghost use Rattle.guest_memory.specs.Spans.{all_permitted, bytes_at, with_bytes_at};
-ghost use Rattle.guest_calls.specs.Calls.{called, bytes_read, read_answer, bytes_written, write_answer, moved_break};
+ghost use Rattle.guest_calls.specs.Calls.{a1, a2, a7, called, bytes_read, read_answer, bytes_written, write_answer, moved_break};
+ghost use Rattle.guest_calls.specs.Faults.{TellsReader, IsStored, ChangesInBuffer, SendsPart};
 
 use crate::{Brk, Going, PortFault};
 use guest_memory::Memory;
@@ -32,10 +33,12 @@ fn read_some<I: Source>(
     requires writable { all_permitted writable_of (length buffer.old) mem.old addr ≡ true }
     ensures count { IfOk result (λ k. k ≤ length buffer.old) }
     ensures moved { IfOk result (λ k. (xs : List ℕ) → I.rest input.old ≡ Some xs → k ≤ length xs) }
-    ensures memory { IfOk result (λ k. (xs ys : List ℕ) → I.rest input.old ≡ Some xs → with_bytes_at mem.new (addr + k) ys ≡ with_bytes_at mem.old addr (take k xs ++ ys)) }
-    ensures rest { IfOk result (λ k. (xs : List ℕ) → I.rest input.old ≡ Some xs → I.rest input.new ≡ Some (drop k xs)) }
+    ensures stored { IfOk result (λ k. IsStored mem.old addr k (I.rest input.old) mem.new) }
+    ensures rest { IfOk result (λ k. (xs : List ℕ) → I.rest input.old ≡ Some xs
+        → I.rest input.new ≡ Some (drop k xs)) }
     ensures at_end { IfOk result (λ k. (xs : List ℕ) → I.rest input.old ≡ Some xs → k ≡ 0 → xs ≡ []) }
     ensures writable { (n x : ℕ) → all_permitted writable_of n mem.new x ≡ all_permitted writable_of n mem.old x }
+    ensures stays { OnErr result (mem.new ≡ mem.old) }
     ensures failed { OnErr result (Rose (I.faults input.old) (I.faults input.new)) }
     ensures fault { IfErr result (λ e. e ≡ PortFault.Read) }
     ensures never_falls { I.faults input.old ≤ I.faults input.new }
@@ -52,8 +55,11 @@ fn fill<I: Source>(mem: &mut Memory, addr: u64, len: u64, input: &mut I) -> Resu
     requires fits { addr + len < 2 ^ 64 }
     requires writable { all_permitted writable_of len mem.old addr ≡ true }
     ensures count { IfOk result (λ k. (xs : List ℕ) → I.rest input.old ≡ Some xs → k ≡ length (take len xs)) }
-    ensures memory { OnOk result ((xs : List ℕ) → I.rest input.old ≡ Some xs → mem.new ≡ with_bytes_at mem.old addr (take len xs)) }
-    ensures rest { OnOk result ((xs : List ℕ) → I.rest input.old ≡ Some xs → I.rest input.new ≡ Some (drop len xs)) }
+    ensures memory { OnOk result ((xs : List ℕ) → I.rest input.old ≡ Some xs
+        → mem.new ≡ with_bytes_at mem.old addr (take len xs)) }
+    ensures rest { OnOk result ((xs : List ℕ) → I.rest input.old ≡ Some xs
+        → I.rest input.new ≡ Some (drop len xs)) }
+    ensures buffer { OnErr result (ChangesInBuffer mem.old addr len mem.new) }
     ensures failed { OnErr result (Rose (I.faults input.old) (I.faults input.new)) }
     ensures fault { IfErr result (λ e. e ≡ PortFault.Read) }
     ensures never_falls { I.faults input.old ≤ I.faults input.new }
@@ -80,8 +86,10 @@ fn write_some<O: Sink>(mem: &Memory, addr: u64, room: u64, out: &mut O) -> Resul
     requires room { 0 < room }
     requires readable { all_permitted readable_of room mem.now addr ≡ true }
     ensures count { IfOk result (λ k. (0 < k) × (k ≤ room)) }
-    ensures appended { IfOk result (λ k. (ys : List ℕ) → O.written out.old ≡ Some ys → O.written out.new ≡ Some (ys ++ bytes_at k mem.now addr)) }
-    ensures prefix { OnErr result ((ys : List ℕ) → O.written out.old ≡ Some ys → (k : ℕ) × (k ≤ room) × (O.written out.new ≡ Some (ys ++ bytes_at k mem.now addr))) }
+    ensures appended { IfOk result (λ k. (ys : List ℕ) → O.written out.old ≡ Some ys
+        → O.written out.new ≡ Some (ys ++ bytes_at k mem.now addr)) }
+    ensures prefix { OnErr result ((ys : List ℕ) → O.written out.old ≡ Some ys
+        → (k : ℕ) × (k ≤ room) × (O.written out.new ≡ Some (ys ++ bytes_at k mem.now addr))) }
     ensures failed { OnErr result (Rose (O.faults out.old) (O.faults out.new)) }
     ensures fault { IfErr result (λ e. e ≡ PortFault.Write) }
     ensures never_falls { O.faults out.old ≤ O.faults out.new }
@@ -96,8 +104,10 @@ fn write_some<O: Sink>(mem: &Memory, addr: u64, room: u64, out: &mut O) -> Resul
 fn send<O: Sink>(mem: &Memory, addr: u64, len: u64, out: &mut O) -> Result<(), PortFault>
     requires fits { addr + len < 2 ^ 64 }
     requires readable { all_permitted readable_of len mem.now addr ≡ true }
-    ensures appended { OnOk result ((ys : List ℕ) → O.written out.old ≡ Some ys → O.written out.new ≡ Some (ys ++ bytes_at len mem.now addr)) }
-    ensures prefix { OnErr result ((ys : List ℕ) → O.written out.old ≡ Some ys → (k : ℕ) × (k ≤ len) × (O.written out.new ≡ Some (ys ++ bytes_at k mem.now addr))) }
+    ensures appended { OnOk result ((ys : List ℕ) → O.written out.old ≡ Some ys
+        → O.written out.new ≡ Some (ys ++ bytes_at len mem.now addr)) }
+    ensures prefix { OnErr result ((ys : List ℕ) → O.written out.old ≡ Some ys
+        → (k : ℕ) × (k ≤ len) × (O.written out.new ≡ Some (ys ++ bytes_at k mem.now addr))) }
     ensures failed { OnErr result (Rose (O.faults out.old) (O.faults out.new)) }
     ensures fault { IfErr result (λ e. e ≡ PortFault.Write) }
     ensures never_falls { O.faults out.old ≤ O.faults out.new }
@@ -120,9 +130,13 @@ fn read<I: Source>(
     mem: &mut Memory,
     input: &mut I,
 ) -> Result<u64, PortFault>
-    ensures answer { IfOk result (λ n. (xs : List ℕ) → I.rest input.old ≡ Some xs → n ≡ read_answer fd addr len mem.old xs) }
-    ensures memory { OnOk result ((xs : List ℕ) → I.rest input.old ≡ Some xs → mem.new ≡ with_bytes_at mem.old addr (bytes_read fd addr len mem.old xs)) }
-    ensures rest { OnOk result ((xs : List ℕ) → I.rest input.old ≡ Some xs → I.rest input.new ≡ Some (drop (length (bytes_read fd addr len mem.old xs)) xs)) }
+    ensures answer { IfOk result (λ n. (xs : List ℕ) → I.rest input.old ≡ Some xs
+        → n ≡ read_answer fd addr len mem.old xs) }
+    ensures memory { OnOk result ((xs : List ℕ) → I.rest input.old ≡ Some xs
+        → mem.new ≡ with_bytes_at mem.old addr (bytes_read fd addr len mem.old xs)) }
+    ensures rest { OnOk result ((xs : List ℕ) → I.rest input.old ≡ Some xs
+        → I.rest input.new ≡ Some (drop (length (bytes_read fd addr len mem.old xs)) xs)) }
+    ensures buffer { OnErr result (ChangesInBuffer mem.old addr len mem.new) }
     ensures failed { OnErr result (Rose (I.faults input.old) (I.faults input.new)) }
     ensures fault { IfErr result (λ e. e ≡ PortFault.Read) }
     ensures never_falls { I.faults input.old ≤ I.faults input.new }
@@ -142,8 +156,10 @@ fn read<I: Source>(
 // The answer to a write, which has sent its bytes.
 fn write<O: Sink>(fd: u64, addr: u64, len: u64, mem: &Memory, out: &mut O) -> Result<u64, PortFault>
     ensures answer { IfOk result (λ n. n ≡ write_answer fd addr len mem.now) }
-    ensures appended { OnOk result ((ys : List ℕ) → O.written out.old ≡ Some ys → O.written out.new ≡ Some (ys ++ bytes_written fd addr len mem.now)) }
-    ensures prefix { OnErr result ((ys : List ℕ) → O.written out.old ≡ Some ys → (k : ℕ) × (O.written out.new ≡ Some (ys ++ take k (bytes_written fd addr len mem.now)))) }
+    ensures appended { OnOk result ((ys : List ℕ) → O.written out.old ≡ Some ys
+        → O.written out.new ≡ Some (ys ++ bytes_written fd addr len mem.now)) }
+    ensures prefix { OnErr result ((ys : List ℕ) → O.written out.old ≡ Some ys
+        → SendsPart ys (bytes_written fd addr len mem.now) (O.written out.new)) }
     ensures failed { OnErr result (Rose (O.faults out.old) (O.faults out.new)) }
     ensures fault { IfErr result (λ e. e ≡ PortFault.Write) }
     ensures never_falls { O.faults out.old ≤ O.faults out.new }
@@ -182,8 +198,8 @@ fn answer(regs: &mut Regs, value: u64) -> Going
 
 /// Answers the call whose number stands in a7 and whose arguments stand in a0, a1 and a2: read (63),
 /// write (64), exit (93, 94), brk (214), and -38 for every other number. A buffer is tested before
-/// any byte moves. After a fault of the source or the sink nothing is known of a0, of the memory and
-/// of how much of the output went out, but that it is a prefix.
+/// any byte moves. After a fault of the source nothing is known of the bytes of the guest's buffer,
+/// and after one of the sink a first part of the buffer has gone out; nothing else has changed.
 #[tactic(auto, unfolding(crate::specs::Calls::called))]
 pub fn call<I: Source, O: Sink>(
     regs: &mut Regs,
@@ -192,14 +208,30 @@ pub fn call<I: Source, O: Sink>(
     input: &mut I,
     out: &mut O,
 ) -> Result<Going, PortFault>
-    ensures going { IfOk result (λ going. (xs : List ℕ) → I.rest input.old ≡ Some xs → going ≡ (called regs.old mem.old brk.old xs).going) }
-    ensures registers { OnOk result ((xs : List ℕ) → I.rest input.old ≡ Some xs → regs.new ≡ (called regs.old mem.old brk.old xs).regs) }
-    ensures memory { OnOk result ((xs : List ℕ) → I.rest input.old ≡ Some xs → mem.new ≡ (called regs.old mem.old brk.old xs).memory) }
-    ensures brk { OnOk result ((xs : List ℕ) → I.rest input.old ≡ Some xs → brk.new ≡ (called regs.old mem.old brk.old xs).brk) }
-    ensures rest { OnOk result ((xs : List ℕ) → I.rest input.old ≡ Some xs → I.rest input.new ≡ Some (called regs.old mem.old brk.old xs).rest) }
-    ensures written { OnOk result ((xs ys : List ℕ) → O.written out.old ≡ Some ys → O.written out.new ≡ Some (ys ++ (called regs.old mem.old brk.old xs).written)) }
+    ensures going { IfOk result (λ going. (xs : List ℕ) → TellsReader regs.old (I.rest input.old) xs
+        → going ≡ (called regs.old mem.old brk.old xs).going) }
+    ensures registers { OnOk result ((xs : List ℕ) → TellsReader regs.old (I.rest input.old) xs
+        → regs.new ≡ (called regs.old mem.old brk.old xs).regs) }
+    ensures memory { OnOk result ((xs : List ℕ) → TellsReader regs.old (I.rest input.old) xs
+        → mem.new ≡ (called regs.old mem.old brk.old xs).memory) }
+    ensures brk { OnOk result ((xs : List ℕ) → brk.new ≡ (called regs.old mem.old brk.old xs).brk) }
+    ensures rest { OnOk result ((xs : List ℕ) → I.rest input.old ≡ Some xs
+        → I.rest input.new ≡ Some (called regs.old mem.old brk.old xs).rest) }
+    ensures written { OnOk result ((xs ys : List ℕ) → O.written out.old ≡ Some ys
+        → O.written out.new ≡ Some (ys ++ (called regs.old mem.old brk.old xs).written)) }
+    ensures takes_nothing { a7 regs.old ≢ 63 → input.new ≡ input.old }
+    ensures sends_nothing { a7 regs.old ≢ 64 → out.new ≡ out.old }
 
-    ensures prefix { OnErr result ((xs ys : List ℕ) → O.written out.old ≡ Some ys → (k : ℕ) × (O.written out.new ≡ Some (ys ++ take k (called regs.old mem.old brk.old xs).written))) }
+    // After a fault.
+    ensures read { IsErrOf result PortFault.Read → a7 regs.old ≡ 63 }
+    ensures write { IsErrOf result PortFault.Write → a7 regs.old ≡ 64 }
+    ensures registers_stay { OnErr result (regs.new ≡ regs.old) }
+    ensures brk_stays { OnErr result (brk.new ≡ brk.old) }
+    ensures memory_stays { IsErrOf result PortFault.Write → mem.new ≡ mem.old }
+    ensures buffer { IsErrOf result PortFault.Read
+        → ChangesInBuffer mem.old (a1 regs.old) (a2 regs.old) mem.new }
+    ensures prefix { OnErr result ((xs ys : List ℕ) → O.written out.old ≡ Some ys
+        → SendsPart ys (called regs.old mem.old brk.old xs).written (O.written out.new)) }
     ensures read_fault { IsErrOf result PortFault.Read → Rose (I.faults input.old) (I.faults input.new) }
     ensures write_fault { IsErrOf result PortFault.Write → Rose (O.faults out.old) (O.faults out.new) }
     ensures input_never_falls { I.faults input.old ≤ I.faults input.new }

@@ -1,8 +1,8 @@
 -- Laws of the serial run.
-use Rattle.std.proofs.Common.{◌≡◌, ℕ, zero, suc, ◌+◌, ◌-◌, ◌<◌, ◌≤◌, min, refl, ap, sym, ◌∙◌, arith, true, false, Bool, Option, Some, None, Result, Ok, Err, List, ◌++◌, [], ◌∷◌, length, take}
-use Rattle.std.proofs.lemmas.List.{append-nil, append_assoc}
+use Rattle.std.proofs.Common.{◌≡◌, ℕ, zero, suc, ◌+◌, ◌-◌, ◌<◌, ◌≤◌, refl, ap, sym, ◌∙◌, arith, true, false, Bool, Option, Some, None, Result, Ok, Err, List, ◌++◌, [], take, drop, ◌==◌, ◌||◌, if◌then◌else◌}
+use Rattle.std.proofs.lemmas.List.{append-nil, append_assoc, take-append-drop}
 use Rattle.std.specs.Prelude.{IsSome, IsNone, is_some}
-use Rattle.rv64_decode.specs.Area.{fetch_of}
+use Rattle.rv64_decode.specs.Area.{Area, fetch_of}
 use Rattle.rv64_decode.specs.Ask.{after}
 use Rattle.rv64_decode.specs.Table.{decoded}
 use Rattle.rv64_decode.specs.Row.{asks, outcome}
@@ -10,9 +10,10 @@ use Rattle.rv64_decode.specs.declared.memory.MemFault.{MemFault}
 use Rattle.rv64_decode.specs.declared.instr.Instr.{Instr}
 use Rattle.rv64_decode.specs.declared.outcome.Next.{Next}
 use Rattle.rv64_decode.specs.declared.outcome.Next.TheVariants.{At, Call, Fault as Faulting}
-use Rattle.guest_calls.specs.Calls.{called}
-use Rattle.serial_run.specs.Serial.{State, state_of, ended, left_with, led, executed, fetched, step, serial, executed_of, unless_ended, IsEnding}
-use Rattle.serial_run.specs.Ports.{is_port_fault, IsPrefixOf}
+use Rattle.guest_calls.specs.Calls.{called, a7, read_call, write_call, exit_call, brk_call, answered, negated}
+use Rattle.guest_calls.specs.declared.Brk.{Brk}
+use Rattle.serial_run.specs.Serial.{State, state_of, ended, with_left, after_next, after_word, after_fetch, step, serial, executed_of, unless_ended, IsEnding}
+use Rattle.serial_run.specs.Runs.{is_port_fault}
 use Rattle.serial_run.specs.declared.machine.End.{End}
 use Rattle.serial_run.specs.declared.machine.Machine.{Machine}
 
@@ -126,21 +127,21 @@ pub record Grows (before now : List ℕ) : Type 0 where
 same_output : (xs : List ℕ) → Grows xs xs
 same_output xs = record { more = []; are = sym (append-nil xs) }
 
-led_output : (s : State) (n : Next) → Grows s.output (led s n).output
-led_output s (At pc) = same_output s.output
-led_output s Call = record { more = (called s.machine.regs s.machine.memory s.machine.brk s.rest).written; are = refl }
-led_output s (Faulting kind addr) = same_output s.output
+next_output : (s : State) (n : Next) → Grows s.output (after_next s n).output
+next_output s (At pc) = same_output s.output
+next_output s Call = record { more = (called s.machine.regs s.machine.memory s.machine.brk s.rest).written; are = refl }
+next_output s (Faulting kind addr) = same_output s.output
 
-executed_output : (s : State) (word : ℕ) (i : Option Instr) → Grows s.output (executed s word i).output
-executed_output s word None = same_output s.output
-executed_output s word (Some i) =
+word_output : (s : State) (word : ℕ) (i : Option Instr) → Grows s.output (after_word s word i).output
+word_output s word None = same_output s.output
+word_output s word (Some i) =
     let m = s.machine in
     let o = outcome i m.pc m.regs m.memory in
-    led_output (left_with s o.regs (after m.memory (asks i m.regs))) o.next
+    next_output (with_left s o.regs (after m.memory (asks i m.regs))) o.next
 
-fetched_output : (s : State) (r : Result ℕ MemFault) → Grows s.output (fetched s r).output
-fetched_output s (Ok word) = executed_output s word (decoded word)
-fetched_output s (Err why) = same_output s.output
+fetch_output : (s : State) (r : Result ℕ MemFault) → Grows s.output (after_fetch s r).output
+fetch_output s (Ok word) = word_output s word (decoded word)
+fetch_output s (Err why) = same_output s.output
 
 unless_output : (o : Option End) (s t : State) → Grows s.output t.output → Grows s.output (unless_ended o s t).output
 unless_output None s t h = h
@@ -148,7 +149,7 @@ unless_output (Some end) s t h = same_output s.output
 
 step_output : (s : State) → Grows s.output (step s).output
 unfolding step
-step_output s = unless_output (ended s) s _ (fetched_output s (fetch_of s.machine.memory s.machine.pc))
+step_output s = unless_output (ended s) s _ (fetch_output s (fetch_of s.machine.memory s.machine.pc))
 
 grows_on : (xs ys zs : List ℕ) → Grows xs ys → Grows ys zs → Grows xs zs
 grows_on xs ys zs a b =
@@ -166,26 +167,74 @@ output_more n m s l =
     let grown = serial_output (m - n) (serial n s) in
     record { more = grown.more; are = ap (λ (t : State). t.output) all ∙ grown.are }
 
--- a first part of what one instruction more has written is one of what all of them write
-pub prefix_of_all : (k fuel : ℕ) (s : State) (written : Option (List ℕ)) → k < fuel → IsPrefixOf written (step (serial k s)).output → IsPrefixOf written (serial fuel s).output
-prefix_of_all k fuel s written l p =
-    let e : suc k + (fuel - suc k) ≡ fuel = omega arith in
-    let next = serial-suc k s in
-    let all : serial fuel s ≡ serial (fuel - suc k) (step (serial k s)) =
-    ap (λ (n : ℕ). serial n s) (sym e) ∙ serial-add (suc k) (fuel - suc k) s ∙ ap (λ (t : State). serial (fuel - suc k) t) next in
-    let grown = serial_output (fuel - suc k) (step (serial k s)) in
-    let same : (serial fuel s).output ≡ (step (serial k s)).output ++ grown.more = ap (λ (t : State). t.output) all ∙ grown.are in
-    record {
-      count = min p.count (length (step (serial k s)).output);
-      are = p.are ∙ ap (λ (v : List ℕ). Some v) (take_of_more p.count (step (serial k s)).output grown.more ∙ ap (λ (v : List ℕ). take (min p.count (length (step (serial k s)).output)) v) (sym same));
-    }
+-- ---- input is only taken
+
+pub record Leaves (before now : List ℕ) : Type 0 where
+  pub taken : List ℕ
+  pub are : before ≡ taken ++ now
+
+same_rest : (xs : List ℕ) → Leaves xs xs
+same_rest xs = record { taken = []; are = refl }
+
+read_rest : (n : ℕ) (xs : List ℕ) → Leaves xs (drop n xs)
+read_rest n xs = record { taken = take n xs; are = sym (take-append-drop n xs) }
+
+-- each call leaves what it does not take
+call_rest : (regs : List ℕ) (memory : List Area) (brk : Brk) (rest : List ℕ) → Leaves rest (called regs memory brk rest).rest
+unfolding called
+call_rest regs memory brk rest = go (a7 regs == 63) (a7 regs == 64) (a7 regs == 93 || a7 regs == 94) (a7 regs == 214)
   where
-    take_of_more : (n : ℕ) (xs ys : List ℕ) → take n xs ≡ take (min n (length xs)) (xs ++ ys)
-    take_of_more zero xs ys = let e : min 0 (length xs) ≡ 0 = omega arith in rw e refl
-    take_of_more (suc n) [] ys = let e : min (suc n) 0 ≡ 0 = omega arith in rw e refl
-    take_of_more (suc n) (x ∷ xs) ys =
-        let e : min (suc n) (suc (length xs)) ≡ suc (min n (length xs)) = omega arith in
-        rw e (ap (λ (v : List ℕ). x ∷ v) (take_of_more n xs ys))
+    go : (a b c d : Bool) → Leaves rest
+        (if a then read_call regs memory brk rest else
+        if b then write_call regs memory brk rest else
+        if c then exit_call regs memory brk rest else
+        if d then brk_call regs memory brk rest else
+        answered (negated 38) regs memory brk rest).rest
+    go true b c d = read_rest _ rest
+    go false true c d = same_rest rest
+    go false false true d = same_rest rest
+    go false false false true = same_rest rest
+    go false false false false = same_rest rest
+
+next_rest : (s : State) (n : Next) → Leaves s.rest (after_next s n).rest
+next_rest s (At pc) = same_rest s.rest
+next_rest s Call = call_rest s.machine.regs s.machine.memory s.machine.brk s.rest
+next_rest s (Faulting kind addr) = same_rest s.rest
+
+word_rest : (s : State) (word : ℕ) (i : Option Instr) → Leaves s.rest (after_word s word i).rest
+word_rest s word None = same_rest s.rest
+word_rest s word (Some i) =
+    let m = s.machine in
+    let o = outcome i m.pc m.regs m.memory in
+    next_rest (with_left s o.regs (after m.memory (asks i m.regs))) o.next
+
+fetch_rest : (s : State) (r : Result ℕ MemFault) → Leaves s.rest (after_fetch s r).rest
+fetch_rest s (Ok word) = word_rest s word (decoded word)
+fetch_rest s (Err why) = same_rest s.rest
+
+unless_rest : (o : Option End) (s t : State) → Leaves s.rest t.rest → Leaves s.rest (unless_ended o s t).rest
+unless_rest None s t h = h
+unless_rest (Some end) s t h = same_rest s.rest
+
+step_rest : (s : State) → Leaves s.rest (step s).rest
+unfolding step
+step_rest s = unless_rest (ended s) s _ (fetch_rest s (fetch_of s.machine.memory s.machine.pc))
+
+leaves_on : (xs ys zs : List ℕ) → Leaves xs ys → Leaves ys zs → Leaves xs zs
+leaves_on xs ys zs a b =
+    record { taken = a.taken ++ b.taken; are = a.are ∙ ap (λ (v : List ℕ). a.taken ++ v) b.are ∙ sym (append_assoc a.taken b.taken zs) }
+
+serial_rest : (n : ℕ) (s : State) → Leaves s.rest (serial n s).rest
+serial_rest zero s = same_rest s.rest
+serial_rest (suc n) s = leaves_on s.rest (step s).rest (serial n (step s)).rest (step_rest s) (serial_rest n (step s))
+
+-- what is unread after more instructions
+pub rest_later : (n m : ℕ) (s : State) → n ≤ m → Leaves (serial n s).rest (serial m s).rest
+rest_later n m s l =
+    let e : n + (m - n) ≡ m = omega arith in
+    let all : serial m s ≡ serial (m - n) (serial n s) = ap (λ (k : ℕ). serial k s) (sym e) ∙ serial-add n (m - n) s in
+    let left = serial_rest (m - n) (serial n s) in
+    record { taken = left.taken; are = left.are ∙ ap (λ (t : State). left.taken ++ t.rest) (sym all) }
 
 -- nothing is counted behind an ending
 pub executed_ended : (fuel : ℕ) (s : State) → is_some (ended s) ≡ true → executed_of fuel s ≡ 0
@@ -198,35 +247,35 @@ executed_ended (suc fuel) s h = rw h refl
 abbrev pub with_before : List ℕ → State → State
 with_before before s = record s { output = before ++ s.output }
 
-led_before : (before : List ℕ) (s : State) (n : Next) → led (with_before before s) n ≡ with_before before (led s n)
-led_before before s (At pc) = refl
-led_before before s Call =
+next_before : (before : List ℕ) (s : State) (n : Next) → after_next (with_before before s) n ≡ with_before before (after_next s n)
+next_before before s (At pc) = refl
+next_before before s Call =
     let c = called s.machine.regs s.machine.memory s.machine.brk s.rest in
-    ap (λ (output : List ℕ). record (led s Call) { output = output }) (append_assoc before s.output c.written)
-led_before before s (Faulting kind addr) = refl
+    ap (λ (output : List ℕ). record (after_next s Call) { output = output }) (append_assoc before s.output c.written)
+next_before before s (Faulting kind addr) = refl
 
-executed_before : (before : List ℕ) (s : State) (word : ℕ) (i : Option Instr) → executed (with_before before s) word i ≡ with_before before (executed s word i)
-executed_before before s word None = refl
-executed_before before s word (Some i) =
+word_before : (before : List ℕ) (s : State) (word : ℕ) (i : Option Instr) → after_word (with_before before s) word i ≡ with_before before (after_word s word i)
+word_before before s word None = refl
+word_before before s word (Some i) =
     let m = s.machine in
     let o = outcome i m.pc m.regs m.memory in
-    led_before before (left_with s o.regs (after m.memory (asks i m.regs))) o.next
+    next_before before (with_left s o.regs (after m.memory (asks i m.regs))) o.next
 
-fetched_before : (before : List ℕ) (s : State) (r : Result ℕ MemFault) → fetched (with_before before s) r ≡ with_before before (fetched s r)
-fetched_before before s (Ok word) = executed_before before s word (decoded word)
-fetched_before before s (Err why) = refl
+fetch_before : (before : List ℕ) (s : State) (r : Result ℕ MemFault) → after_fetch (with_before before s) r ≡ with_before before (after_fetch s r)
+fetch_before before s (Ok word) = word_before before s word (decoded word)
+fetch_before before s (Err why) = refl
 
 unless_before : (before : List ℕ) (o : Option End) (s t : State) → unless_ended o (with_before before s) (with_before before t) ≡ with_before before (unless_ended o s t)
 unless_before before None s t = refl
 unless_before before (Some end) s t = refl
 
-step_before : (before : List ℕ) (s : State) → step (with_before before s) ≡ with_before before (step s)
+pub step_before : (before : List ℕ) (s : State) → step (with_before before s) ≡ with_before before (step s)
 unfolding step
 step_before before s =
     let m = s.machine in
     let r = fetch_of m.memory m.pc in
-    ap (λ (t : State). unless_ended (ended s) (with_before before s) t) (fetched_before before s r)
-    ∙ unless_before before (ended s) s (fetched s r)
+    ap (λ (t : State). unless_ended (ended s) (with_before before s) t) (fetch_before before s r)
+    ∙ unless_before before (ended s) s (after_fetch s r)
 
 pub serial_before : (n : ℕ) (before : List ℕ) (s : State) → serial n (with_before before s) ≡ with_before before (serial n s)
 serial_before zero before s = refl

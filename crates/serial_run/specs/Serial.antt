@@ -55,12 +55,12 @@ abbrev pub start_of : Elf → List ℕ → State
 start_of elf input = record { machine = start_machine elf; output = []; rest = input }
 
 -- the state with an ending
-abbrev pub ended_by : State → End → State
-ended_by s end = record s { machine = record s.machine { ended = Some end } }
+abbrev pub with_ending : State → End → State
+with_ending s end = record s { machine = record s.machine { ended = Some end } }
 
--- the instruction at pc faulted, and all else stays
-abbrev pub faulted : State → Fault → ℕ → State
-faulted s kind addr = ended_by s (Faulted kind s.machine.pc addr)
+-- the instruction at pc faults, and all else stays
+abbrev pub after_fault : State → Fault → ℕ → State
+after_fault s kind addr = with_ending s (Faulted kind s.machine.pc addr)
 
 -- after a call the run goes on behind it, or ends there
 abbrev pub pc_after : ℕ → Going → ℕ
@@ -72,40 +72,46 @@ end_after On = None
 end_after (Exit code) = Some (Exited code)
 
 -- the state that a call leaves
-abbrev pub answered : State → Called → State
-answered s c =
+abbrev pub after_call : State → Called → State
+after_call s c =
     record {
-      machine = record { pc = pc_after s.machine.pc c.going; regs = c.regs; memory = c.memory; brk = c.brk; ended = end_after c.going };
+      machine = record {
+        pc = pc_after s.machine.pc c.going;
+        regs = c.regs;
+        memory = c.memory;
+        brk = c.brk;
+        ended = end_after c.going;
+      };
       output = s.output ++ c.written;
       rest = c.rest;
     }
 
 -- the state with the registers and the memory that an instruction leaves
-abbrev pub left_with : State → List ℕ → List Area → State
-left_with s regs m = record s { machine = record s.machine { regs = regs; memory = m } }
+abbrev pub with_left : State → List ℕ → List Area → State
+with_left s regs m = record s { machine = record s.machine { regs = regs; memory = m } }
 
--- where it leads from there
-abbrev pub led : State → Next → State
-led s (At pc) = record s { machine = record s.machine { pc = pc } }
-led s Call = answered s (called s.machine.regs s.machine.memory s.machine.brk s.rest)
-led s (Faulting kind addr) = faulted s kind addr
+-- the state to which it leads from there
+abbrev pub after_next : State → Next → State
+after_next s (At pc) = record s { machine = record s.machine { pc = pc } }
+after_next s Call = after_call s (called s.machine.regs s.machine.memory s.machine.brk s.rest)
+after_next s (Faulting kind addr) = after_fault s kind addr
 
--- an instruction is executed at pc
-abbrev pub performed : State → Instr → State
-performed s i =
+-- the state after the instruction at pc
+abbrev pub after_instr : State → Instr → State
+after_instr s i =
     let m = s.machine in
     let o = outcome i m.pc m.regs m.memory in
-    led (left_with s o.regs (after m.memory (asks i m.regs))) o.next
+    after_next (with_left s o.regs (after m.memory (asks i m.regs))) o.next
 
--- the word at pc is; one that stands for no instruction is a fault at itself
-abbrev pub executed : State → ℕ → Option Instr → State
-executed s word None = faulted s Illegal word
-executed s word (Some i) = performed s i
+-- the state after the word at pc; one that stands for no instruction is a fault at itself
+abbrev pub after_word : State → ℕ → Option Instr → State
+after_word s word None = after_fault s Illegal word
+after_word s word (Some i) = after_instr s i
 
--- the word at pc, or a fault where pc lies in no executable area
-abbrev pub fetched : State → Result ℕ MemFault → State
-fetched s (Ok word) = executed s word (decoded word)
-fetched s (Err why) = faulted s Fetch s.machine.pc
+-- the same, for what a fetch at pc gives: a fault where pc lies in no executable area
+abbrev pub after_fetch : State → Result ℕ MemFault → State
+after_fetch s (Ok word) = after_word s word (decoded word)
+after_fetch s (Err why) = after_fault s Fetch s.machine.pc
 
 abbrev pub unless_ended : Option End → State → State → State
 unless_ended None s t = t
@@ -113,7 +119,7 @@ unless_ended (Some end) s t = s
 
 -- one instruction; a state with an ending stays as it is
 unfoldable pub step : State → State
-step s = unless_ended (ended s) s (fetched s (fetch_of s.machine.memory s.machine.pc))
+step s = unless_ended (ended s) s (after_fetch s (fetch_of s.machine.memory s.machine.pc))
 
 -- the state after n instructions
 abbrev pub serial : ℕ → State → State

@@ -5,7 +5,7 @@ mod laws;
 mod machine;
 mod running;
 
-pub use laws::{faults_change_nothing, first_ending, output_only_grows};
+pub use laws::{faults_change_nothing, first_ending, input_is_only_taken, output_only_grows};
 pub use machine::{End, Machine};
 pub use running::{Ran, run_counted, run_serial, start, step_serial};
 

@@ -1,9 +1,7 @@
-ghost use Rattle.std.specs.Prelude.{◌≡◌, ◌≢◌, ◌+◌, ◌-◌, ◌%◌, ◌<◌, ◌≤◌, ◌++◌, ◌⊎◌, ℕ, false, List, Some, None, IfOk, IsSome, IsNone, unwrap_or, true};
+ghost use Rattle.std.specs.Prelude.{◌≡◌, ◌≤◌, ℕ, false, Some, None, IfOk, IsSome, IsNone, unwrap_or};
 ghost use Rattle.elf_image.specs.Layout.{IsLoadable};
-ghost use Rattle.outside_ports.specs.Ports.{Rose};
-ghost use Rattle.guest_calls.specs.Calls.{called};
-ghost use Rattle.serial_run.specs.Serial.{State, state_of, start_machine, answered, performed, step, serial, executed_of};
-ghost use Rattle.serial_run.specs.Ports.{is_port_fault, IsPrefixOf};
+ghost use Rattle.serial_run.specs.Serial.{State, start_machine, after_call, after_instr, step, executed_of};
+ghost use Rattle.serial_run.specs.Runs.{is_port_fault, configuration_of, call_at, Keeps, Acts, Runs};
 
 use crate::machine::{End, Machine};
 use elf_image::Elf;
@@ -42,16 +40,12 @@ pub fn start(alloc: Global, elf: &Elf) -> Result<Machine, AllocError>
 // Answers a call at pc.
 fn answer_call<I: Source, O: Sink>(m: &mut Machine, input: &mut I, out: &mut O)
     requires { m.old.ended ≡ None }
-    ensures machine { (xs ys : List ℕ) → I.rest input.old ≡ Some xs → is_port_fault m.new.ended ≡ false → m.new ≡ (answered (state_of m.old ys xs) (called m.old.regs m.old.memory m.old.brk xs)).machine }
-    ensures rest { (xs : List ℕ) → I.rest input.old ≡ Some xs → is_port_fault m.new.ended ≡ false → I.rest input.new ≡ Some (called m.old.regs m.old.memory m.old.brk xs).rest }
-    ensures output { (xs ys : List ℕ) → I.rest input.old ≡ Some xs → is_port_fault m.new.ended ≡ false → O.written out.old ≡ Some ys → O.written out.new ≡ Some (answered (state_of m.old ys xs) (called m.old.regs m.old.memory m.old.brk xs)).output }
-    ensures prefix { (xs ys : List ℕ) → is_port_fault m.new.ended ≡ true → O.written out.old ≡ Some ys → IsPrefixOf (O.written out.new) (ys ++ (called m.old.regs m.old.memory m.old.brk xs).written) }
-    ensures aligned { m.old.pc % 4 ≡ 0 → m.new.pc % 4 ≡ 0 }
-    ensures open { m.new.ended ≢ Some End.Spent }
-    ensures read_fault { m.new.ended ≡ Some End.ReadFault → Rose (I.faults input.old) (I.faults input.new) }
-    ensures write_fault { m.new.ended ≡ Some End.WriteFault → Rose (O.faults out.old) (O.faults out.new) }
-    ensures input_never_falls { I.faults input.old ≤ I.faults input.new }
-    ensures output_never_falls { O.faults out.old ≤ O.faults out.new }
+    ensures acts { Acts (λ s. after_call s (call_at s))
+        (configuration_of m.old (I.rest input.old) (I.faults input.old) (O.written out.old) (O.faults out.old))
+        (configuration_of m.new (I.rest input.new) (I.faults input.new) (O.written out.new) (O.faults out.new)) }
+    ensures keeps { Keeps
+        (configuration_of m.old (I.rest input.old) (I.faults input.old) (O.written out.old) (O.faults out.old))
+        (configuration_of m.new (I.rest input.new) (I.faults input.new) (O.written out.new) (O.faults out.new)) }
 {
     match call(&mut m.regs, &mut m.memory, &mut m.brk, input, out) {
         Ok(Going::On) => m.pc = m.pc.wrapping_add(4),
@@ -64,16 +58,12 @@ fn answer_call<I: Source, O: Sink>(m: &mut Machine, input: &mut I, out: &mut O)
 // Executes an instruction that stands at pc.
 fn perform<I: Source, O: Sink>(m: &mut Machine, i: Instr, input: &mut I, out: &mut O)
     requires { m.old.ended ≡ None }
-    ensures machine { (xs ys : List ℕ) → I.rest input.old ≡ Some xs → is_port_fault m.new.ended ≡ false → m.new ≡ (performed (state_of m.old ys xs) i).machine }
-    ensures rest { (xs ys : List ℕ) → I.rest input.old ≡ Some xs → is_port_fault m.new.ended ≡ false → I.rest input.new ≡ Some (performed (state_of m.old ys xs) i).rest }
-    ensures output { (xs ys : List ℕ) → I.rest input.old ≡ Some xs → is_port_fault m.new.ended ≡ false → O.written out.old ≡ Some ys → O.written out.new ≡ Some (performed (state_of m.old ys xs) i).output }
-    ensures prefix { (xs ys : List ℕ) → is_port_fault m.new.ended ≡ true → O.written out.old ≡ Some ys → IsPrefixOf (O.written out.new) (performed (state_of m.old ys xs) i).output }
-    ensures aligned { m.old.pc % 4 ≡ 0 → m.new.pc % 4 ≡ 0 }
-    ensures open { m.new.ended ≢ Some End.Spent }
-    ensures read_fault { m.new.ended ≡ Some End.ReadFault → Rose (I.faults input.old) (I.faults input.new) }
-    ensures write_fault { m.new.ended ≡ Some End.WriteFault → Rose (O.faults out.old) (O.faults out.new) }
-    ensures input_never_falls { I.faults input.old ≤ I.faults input.new }
-    ensures output_never_falls { O.faults out.old ≤ O.faults out.new }
+    ensures acts { Acts (λ s. after_instr s i)
+        (configuration_of m.old (I.rest input.old) (I.faults input.old) (O.written out.old) (O.faults out.old))
+        (configuration_of m.new (I.rest input.new) (I.faults input.new) (O.written out.new) (O.faults out.new)) }
+    ensures keeps { Keeps
+        (configuration_of m.old (I.rest input.old) (I.faults input.old) (O.written out.old) (O.faults out.old))
+        (configuration_of m.new (I.rest input.new) (I.faults input.new) (O.written out.new) (O.faults out.new)) }
 {
     let pc = m.pc;
     match exec(i, pc, &mut m.regs, &mut m.memory) {
@@ -87,16 +77,12 @@ fn perform<I: Source, O: Sink>(m: &mut Machine, i: Instr, input: &mut I, out: &m
 #[tactic(auto, unfolding(crate::specs::Serial::step))]
 fn advance<I: Source, O: Sink>(m: &mut Machine, input: &mut I, out: &mut O)
     requires { m.old.ended ≡ None }
-    ensures machine { (xs ys : List ℕ) → I.rest input.old ≡ Some xs → is_port_fault m.new.ended ≡ false → m.new ≡ (step (state_of m.old ys xs)).machine }
-    ensures rest { (xs ys : List ℕ) → I.rest input.old ≡ Some xs → is_port_fault m.new.ended ≡ false → I.rest input.new ≡ Some (step (state_of m.old ys xs)).rest }
-    ensures output { (xs ys : List ℕ) → I.rest input.old ≡ Some xs → is_port_fault m.new.ended ≡ false → O.written out.old ≡ Some ys → O.written out.new ≡ Some (step (state_of m.old ys xs)).output }
-    ensures prefix { (xs ys : List ℕ) → is_port_fault m.new.ended ≡ true → O.written out.old ≡ Some ys → IsPrefixOf (O.written out.new) (step (state_of m.old ys xs)).output }
-    ensures aligned { m.old.pc % 4 ≡ 0 → m.new.pc % 4 ≡ 0 }
-    ensures open { m.new.ended ≢ Some End.Spent }
-    ensures read_fault { m.new.ended ≡ Some End.ReadFault → Rose (I.faults input.old) (I.faults input.new) }
-    ensures write_fault { m.new.ended ≡ Some End.WriteFault → Rose (O.faults out.old) (O.faults out.new) }
-    ensures input_never_falls { I.faults input.old ≤ I.faults input.new }
-    ensures output_never_falls { O.faults out.old ≤ O.faults out.new }
+    ensures acts { Acts step
+        (configuration_of m.old (I.rest input.old) (I.faults input.old) (O.written out.old) (O.faults out.old))
+        (configuration_of m.new (I.rest input.new) (I.faults input.new) (O.written out.new) (O.faults out.new)) }
+    ensures keeps { Keeps
+        (configuration_of m.old (I.rest input.old) (I.faults input.old) (O.written out.old) (O.faults out.old))
+        (configuration_of m.new (I.rest input.new) (I.faults input.new) (O.written out.new) (O.faults out.new)) }
 {
     let pc = m.pc;
     match m.memory.fetch(pc) {
@@ -117,25 +103,22 @@ fn advance<I: Source, O: Sink>(m: &mut Machine, input: &mut I, out: &mut O)
 }
 
 /// Executes one instruction, and says how the run has ended, if it has. A machine that has an ending
-/// stays as it is, with that ending. A fault of the source or the sink ends the run too; nothing more
-/// is known then of the machine.
-#[tactic(auto, using(crate::proofs::Steps::step_of_ended, crate::proofs::Steps::same_state))]
+/// stays as it is, with that ending. A fault of the source or the sink ends the run too, at the call
+/// in which it was met: all is as it was before that call, but for bytes of the guest's buffer after a
+/// fault of the source, and a first part of the call's bytes that has gone out.
 pub fn step_serial<I: Source, O: Sink>(m: &mut Machine, input: &mut I, out: &mut O) -> Option<End>
     ensures answer { result ≡ m.new.ended }
-    ensures machine { (s : State) → m.old ≡ s.machine → I.rest input.old ≡ Some s.rest → is_port_fault m.new.ended ≡ false → m.new ≡ (step s).machine }
-    ensures rest { (s : State) → m.old ≡ s.machine → I.rest input.old ≡ Some s.rest → is_port_fault m.new.ended ≡ false → I.rest input.new ≡ Some (step s).rest }
-    ensures output { (s : State) → m.old ≡ s.machine → I.rest input.old ≡ Some s.rest → is_port_fault m.new.ended ≡ false → O.written out.old ≡ Some s.output → O.written out.new ≡ Some (step s).output }
-    ensures prefix { (s : State) → m.old ≡ s.machine → IsNone m.old.ended → is_port_fault m.new.ended ≡ true → O.written out.old ≡ Some s.output → IsPrefixOf (O.written out.new) (step s).output }
+    ensures acts { IsNone m.old.ended → Acts step
+        (configuration_of m.old (I.rest input.old) (I.faults input.old) (O.written out.old) (O.faults out.old))
+        (configuration_of m.new (I.rest input.new) (I.faults input.new) (O.written out.new) (O.faults out.new)) }
+    ensures keeps { Keeps
+        (configuration_of m.old (I.rest input.old) (I.faults input.old) (O.written out.old) (O.faults out.old))
+        (configuration_of m.new (I.rest input.new) (I.faults input.new) (O.written out.new) (O.faults out.new)) }
 
+    // A machine that has an ending.
     ensures stays { IsSome m.old.ended → m.new ≡ m.old }
     ensures input_stays { IsSome m.old.ended → input.new ≡ input.old }
     ensures output_stays { IsSome m.old.ended → out.new ≡ out.old }
-    ensures aligned { m.old.pc % 4 ≡ 0 → m.new.pc % 4 ≡ 0 }
-    ensures open { m.old.ended ≢ Some End.Spent → m.new.ended ≢ Some End.Spent }
-    ensures read_fault { m.new.ended ≡ Some End.ReadFault → (m.old.ended ≡ Some End.ReadFault) ⊎ Rose (I.faults input.old) (I.faults input.new) }
-    ensures write_fault { m.new.ended ≡ Some End.WriteFault → (m.old.ended ≡ Some End.WriteFault) ⊎ Rose (O.faults out.old) (O.faults out.new) }
-    ensures input_never_falls { I.faults input.old ≤ I.faults input.new }
-    ensures output_never_falls { O.faults out.old ≤ O.faults out.new }
 {
     if m.ended.is_some() {
         return m.ended;
@@ -152,21 +135,32 @@ pub struct Ran {
     pub steps: u64,
 }
 
-// Executes instructions until the run ends, but at most `fuel` of them, and counts them.
-fn count_steps<I: Source, O: Sink>(m: &mut Machine, fuel: u64, input: &mut I, out: &mut O) -> Ran
+/// Executes instructions until the run ends, but at most `fuel` of them, and counts them. The ending
+/// is `Spent` exactly where these have given none; the machine then has no ending. After a fault of
+/// the source or the sink the machine stands at the call in which it was met, and nothing has been read
+/// or written since.
+pub fn run_counted<I: Source, O: Sink>(
+    m: &mut Machine,
+    fuel: u64,
+    input: &mut I,
+    out: &mut O,
+) -> Ran
     ensures end { result.end ≡ unwrap_or m.new.ended End.Spent }
-    ensures steps { (s : State) → m.old ≡ s.machine → I.rest input.old ≡ Some s.rest → is_port_fault m.new.ended ≡ false → result.steps ≡ executed_of fuel s }
-    ensures machine { (s : State) → m.old ≡ s.machine → I.rest input.old ≡ Some s.rest → is_port_fault m.new.ended ≡ false → m.new ≡ (serial fuel s).machine }
-    ensures rest { (s : State) → m.old ≡ s.machine → I.rest input.old ≡ Some s.rest → is_port_fault m.new.ended ≡ false → I.rest input.new ≡ Some (serial fuel s).rest }
-    ensures output { (s : State) → m.old ≡ s.machine → I.rest input.old ≡ Some s.rest → is_port_fault m.new.ended ≡ false → O.written out.old ≡ Some s.output → O.written out.new ≡ Some (serial fuel s).output }
-    ensures prefix { (s : State) → m.old ≡ s.machine → I.rest input.old ≡ Some s.rest → IsNone m.old.ended → is_port_fault m.new.ended ≡ true → O.written out.old ≡ Some s.output → IsPrefixOf (O.written out.new) (serial fuel s).output }
+    ensures steps { (s : State) → m.old ≡ s.machine → I.rest input.old ≡ Some s.rest
+        → is_port_fault m.new.ended ≡ false → result.steps ≡ executed_of fuel s }
+    ensures within { result.steps ≤ fuel }
+    ensures runs { Runs fuel
+        (configuration_of m.old (I.rest input.old) (I.faults input.old) (O.written out.old) (O.faults out.old))
+        (configuration_of m.new (I.rest input.new) (I.faults input.new) (O.written out.new) (O.faults out.new)) }
+    ensures keeps { Keeps
+        (configuration_of m.old (I.rest input.old) (I.faults input.old) (O.written out.old) (O.faults out.old))
+        (configuration_of m.new (I.rest input.new) (I.faults input.new) (O.written out.new) (O.faults out.new)) }
 
-    ensures aligned { m.old.pc % 4 ≡ 0 → m.new.pc % 4 ≡ 0 }
-    ensures open { m.old.ended ≢ Some End.Spent → m.new.ended ≢ Some End.Spent }
-    ensures read_fault { m.new.ended ≡ Some End.ReadFault → (m.old.ended ≡ Some End.ReadFault) ⊎ Rose (I.faults input.old) (I.faults input.new) }
-    ensures write_fault { m.new.ended ≡ Some End.WriteFault → (m.old.ended ≡ Some End.WriteFault) ⊎ Rose (O.faults out.old) (O.faults out.new) }
-    ensures input_never_falls { I.faults input.old ≤ I.faults input.new }
-    ensures output_never_falls { O.faults out.old ≤ O.faults out.new }
+    // A machine that has an ending.
+    ensures stays { IsSome m.old.ended → m.new ≡ m.old }
+    ensures input_stays { IsSome m.old.ended → input.new ≡ input.old }
+    ensures output_stays { IsSome m.old.ended → out.new ≡ out.old }
+    ensures no_steps { IsSome m.old.ended → result.steps ≡ 0 }
 {
     if let Some(end) = m.ended {
         return Ran { end, steps: 0 };
@@ -182,48 +176,21 @@ fn count_steps<I: Source, O: Sink>(m: &mut Machine, fuel: u64, input: &mut I, ou
     }
 }
 
-/// Executes instructions until the run ends, but at most `fuel` of them, and counts them. The ending
-/// is `Spent` exactly where these have given none; the machine then has no ending. After a fault of
-/// the source or the sink nothing more is known of the machine, and a first part of the output has
-/// gone out.
-pub fn run_counted<I: Source, O: Sink>(
-    m: &mut Machine,
-    fuel: u64,
-    input: &mut I,
-    out: &mut O,
-) -> Ran
-    ensures end { result.end ≡ unwrap_or m.new.ended End.Spent }
-    ensures steps { (s : State) → m.old ≡ s.machine → I.rest input.old ≡ Some s.rest → is_port_fault m.new.ended ≡ false → result.steps ≡ executed_of fuel s }
-    ensures machine { (s : State) → m.old ≡ s.machine → I.rest input.old ≡ Some s.rest → is_port_fault m.new.ended ≡ false → m.new ≡ (serial fuel s).machine }
-    ensures rest { (s : State) → m.old ≡ s.machine → I.rest input.old ≡ Some s.rest → is_port_fault m.new.ended ≡ false → I.rest input.new ≡ Some (serial fuel s).rest }
-    ensures output { (s : State) (before : List ℕ) → m.old ≡ s.machine → I.rest input.old ≡ Some s.rest → is_port_fault m.new.ended ≡ false → O.written out.old ≡ Some (before ++ s.output) → O.written out.new ≡ Some (before ++ (serial fuel s).output) }
-    ensures prefix { (s : State) (before : List ℕ) → m.old ≡ s.machine → I.rest input.old ≡ Some s.rest → IsNone m.old.ended → is_port_fault m.new.ended ≡ true → O.written out.old ≡ Some (before ++ s.output) → IsPrefixOf (O.written out.new) (before ++ (serial fuel s).output) }
-
-    ensures aligned { m.old.pc % 4 ≡ 0 → m.new.pc % 4 ≡ 0 }
-    ensures open { m.old.ended ≢ Some End.Spent → m.new.ended ≢ Some End.Spent }
-    ensures read_fault { m.new.ended ≡ Some End.ReadFault → (m.old.ended ≡ Some End.ReadFault) ⊎ Rose (I.faults input.old) (I.faults input.new) }
-    ensures write_fault { m.new.ended ≡ Some End.WriteFault → (m.old.ended ≡ Some End.WriteFault) ⊎ Rose (O.faults out.old) (O.faults out.new) }
-    ensures input_never_falls { I.faults input.old ≤ I.faults input.new }
-    ensures output_never_falls { O.faults out.old ≤ O.faults out.new }
-{
-    count_steps(m, fuel, input, out)
-}
-
-/// Executes instructions until the run ends, but at most `fuel` of them, and says how it ended: the
-/// same as `run_counted`, without the count.
+/// Executes instructions until the run ends, but at most `fuel` of them. `Spent` comes exactly where
+/// these have given no ending; the machine then has none.
 pub fn run_serial<I: Source, O: Sink>(m: &mut Machine, fuel: u64, input: &mut I, out: &mut O) -> End
     ensures end { result ≡ unwrap_or m.new.ended End.Spent }
-    ensures machine { (s : State) → m.old ≡ s.machine → I.rest input.old ≡ Some s.rest → is_port_fault m.new.ended ≡ false → m.new ≡ (serial fuel s).machine }
-    ensures rest { (s : State) → m.old ≡ s.machine → I.rest input.old ≡ Some s.rest → is_port_fault m.new.ended ≡ false → I.rest input.new ≡ Some (serial fuel s).rest }
-    ensures output { (s : State) (before : List ℕ) → m.old ≡ s.machine → I.rest input.old ≡ Some s.rest → is_port_fault m.new.ended ≡ false → O.written out.old ≡ Some (before ++ s.output) → O.written out.new ≡ Some (before ++ (serial fuel s).output) }
-    ensures prefix { (s : State) (before : List ℕ) → m.old ≡ s.machine → I.rest input.old ≡ Some s.rest → IsNone m.old.ended → is_port_fault m.new.ended ≡ true → O.written out.old ≡ Some (before ++ s.output) → IsPrefixOf (O.written out.new) (before ++ (serial fuel s).output) }
+    ensures runs { Runs fuel
+        (configuration_of m.old (I.rest input.old) (I.faults input.old) (O.written out.old) (O.faults out.old))
+        (configuration_of m.new (I.rest input.new) (I.faults input.new) (O.written out.new) (O.faults out.new)) }
+    ensures keeps { Keeps
+        (configuration_of m.old (I.rest input.old) (I.faults input.old) (O.written out.old) (O.faults out.old))
+        (configuration_of m.new (I.rest input.new) (I.faults input.new) (O.written out.new) (O.faults out.new)) }
 
-    ensures aligned { m.old.pc % 4 ≡ 0 → m.new.pc % 4 ≡ 0 }
-    ensures open { m.old.ended ≢ Some End.Spent → m.new.ended ≢ Some End.Spent }
-    ensures read_fault { m.new.ended ≡ Some End.ReadFault → (m.old.ended ≡ Some End.ReadFault) ⊎ Rose (I.faults input.old) (I.faults input.new) }
-    ensures write_fault { m.new.ended ≡ Some End.WriteFault → (m.old.ended ≡ Some End.WriteFault) ⊎ Rose (O.faults out.old) (O.faults out.new) }
-    ensures input_never_falls { I.faults input.old ≤ I.faults input.new }
-    ensures output_never_falls { O.faults out.old ≤ O.faults out.new }
+    // A machine that has an ending.
+    ensures stays { IsSome m.old.ended → m.new ≡ m.old }
+    ensures input_stays { IsSome m.old.ended → input.new ≡ input.old }
+    ensures output_stays { IsSome m.old.ended → out.new ≡ out.old }
 {
     run_counted(m, fuel, input, out).end
 }

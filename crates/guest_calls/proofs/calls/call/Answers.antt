@@ -11,5 +11,5 @@ returns-in-Err-write-clause-prefix g c = λ xs ys h.
     let second = register_read regs c.get-addr.result c.new-2.result 11 c.get-addr.ensures c.new-2.ensures in
     let third = register_read regs c.get-len.result c.new-3.result 12 c.get-len.ensures c.new-3.ensures in
     let number : a7 regs ≡ 64 = sym (register_read regs c.get.result c.new-4.result 17 c.get.ensures c.new-4.ensures) ∙ c.in-64.is in
-    let sent = rw (first, second, third) at p.1 in
-    (p.0, rw (written_call c.args.regs.now c.args.mem.now c.args.brk.now xs number) sent)
+    let sent = rw (first, second, third) at p.are in
+    record { count = p.count; are = rw (written_call c.args.regs.now c.args.mem.now c.args.brk.now xs number) sent }

@@ -1,8 +1,9 @@
-use Rattle.std.proofs.Common.{◌≡◌, ℕ, ◌+◌, ◌-◌, ◌++◌, List, [], take, drop, Some, ap, ◌∙◌, arith}
+use Rattle.std.proofs.Common.{◌≡◌, ℕ, ◌+◌, ◌-◌, List, take, drop, Some, ap, sym, ◌∙◌, arith}
 use Rattle.std.proofs.lemmas.List.{length-take, length-drop, drop-drop, append-nil}
 use Rattle.rv64_decode.specs.Area.{writable_of}
 use Rattle.guest_memory.specs.Spans.{with_bytes_at}
-use Rattle.guest_calls.proofs.Spans.{permitted_fewer, permitted_rest, short_drop, take_take, taken_all, at_end_rest}
+use Rattle.guest_calls.proofs.Spans.{permitted_fewer, permitted_rest, short_drop, taken_all, at_end_rest}
+use Rattle.guest_calls.proofs.Stored.{stored_none, stored_more, stored_told, stored_part}
 use Rattle.guest_calls.proofs.calls.fill.Goals as goal
 
 pub read_some-requires-clause-writable : goal.read_some-requires-clause-writable
@@ -23,10 +24,11 @@ returns-then-count-eq0-clause-memory g c = λ xs h.
     let rest = c.loop-done.invariant.rest xs h in
     let none = c.in-Ok.ensures.at_end (drop c.loop-done.done xs) rest c.if-count-eq0.true in
     let all = taken_all c.loop-done.done c.args.len xs (short_drop c.loop-done.done xs none) c.loop-done.invariant.within in
-    let moved = rw c.if-count-eq0.true at (c.in-Ok.ensures.memory (drop c.loop-done.done xs) [] rest) in
-    moved
-    ∙ c.loop-done.invariant.memory xs [] h
-    ∙ ap (λ (bytes : List ℕ). with_bytes_at c.args.mem.now c.args.addr bytes) all
+    let more = stored_more _ _ _ _ _ _ _ _ c.loop-done.invariant.stored c.loop-done.invariant.rest c.in-Ok.ensures.stored in
+    let one : c.loop-done.done + c.in-Ok.count ≡ c.loop-done.done = omega arith in
+    let stored = rw one at more in
+    stored_told _ _ _ _ _ xs stored h
+    ∙ ap (λ (bytes : List ℕ). with_bytes_at c.args.mem.now c.args.addr bytes) (sym (append-nil (take c.loop-done.done xs)) ∙ all)
 
 pub returns-then-count-eq0-clause-rest : goal.returns-then-count-eq0-clause-rest
 returns-then-count-eq0-clause-rest g c = λ xs h.
@@ -34,6 +36,23 @@ returns-then-count-eq0-clause-rest g c = λ xs h.
     let none = c.in-Ok.ensures.at_end (drop c.loop-done.done xs) rest c.if-count-eq0.true in
     let moved = rw c.if-count-eq0.true at (c.in-Ok.ensures.rest (drop c.loop-done.done xs) rest) in
     moved ∙ ap (λ (ys : List ℕ). Some ys) (at_end_rest c.loop-done.done c.args.len xs none c.loop-done.invariant.within)
+
+pub returns-in-Err-clause-buffer : goal.returns-in-Err-clause-buffer
+returns-in-Err-clause-buffer g c =
+    rw c.in-Err.ensures.stays (stored_part _ _ _ _ _ _ c.loop-done.invariant.stored c.loop-done.invariant.within c.requires.writable)
+
+pub loop-done-init : goal.loop-done-init
+loop-done-init g c =
+    let none : c.args.len - 0 ≡ c.args.len = omega arith in
+    let place : c.args.addr + 0 ≡ c.args.addr = omega arith in
+    record {
+      within = omega arith;
+      writable = rw (none, place) c.requires.writable;
+      had = λ xs h. omega arith;
+      rest = λ xs h. h;
+      stored = stored_none _ _ _;
+      faults = omega arith;
+    }
 
 pub loop-done-preserved : goal.loop-done-preserved
 loop-done-preserved g c =
@@ -53,17 +72,12 @@ loop-done-preserved g c =
       rest = λ xs h.
           c.in-Ok.ensures.rest (drop c.loop-done.done xs) (c.loop-done.invariant.rest xs h)
           ∙ ap (λ (ys : List ℕ). Some ys) (drop-drop c.in-Ok.count c.loop-done.done xs);
-      memory = λ xs ys h.
-          let moved = c.in-Ok.ensures.memory (drop c.loop-done.done xs) ys (c.loop-done.invariant.rest xs h) in
-          let before = c.loop-done.invariant.memory xs (take c.in-Ok.count (drop c.loop-done.done xs) ++ ys) h in
-          let all = take_take c.loop-done.done c.in-Ok.count xs ys in
-          rw place (moved ∙ before ∙ ap (λ (bytes : List ℕ). with_bytes_at c.args.mem.now c.args.addr bytes) all);
+      stored = stored_more _ _ _ _ _ _ _ _ c.loop-done.invariant.stored c.loop-done.invariant.rest c.in-Ok.ensures.stored;
       faults = omega (arith, c.in-Ok.ensures.never_falls);
     }
 
 pub returns-clause-memory : goal.returns-clause-memory
 returns-clause-memory g c = λ xs h.
     let all : c.loop-done.done ≡ c.args.len = omega arith in
-    c.loop-done.invariant.memory xs [] h
-    ∙ ap (λ (bytes : List ℕ). with_bytes_at c.args.mem.now c.args.addr bytes) (append-nil (take c.loop-done.done xs))
+    stored_told _ _ _ _ _ xs c.loop-done.invariant.stored h
     ∙ ap (λ (k : ℕ). with_bytes_at c.args.mem.now c.args.addr (take k xs)) all

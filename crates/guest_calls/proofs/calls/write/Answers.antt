@@ -17,4 +17,4 @@ returns-in-Err-clause-prefix g c = λ ys h.
     ] in
     let open_to : all_permitted readable_of c.args.len c.args.mem.now c.args.addr ≡ true = sym c.can_read.ensures.value ∙ c.if-not-can_read.false in
     let sent = sent_bytes c.args.fd c.args.addr c.args.len c.args.mem.now output open_to in
-    (p.0, rw (sent, take_bytes_at p.0 c.args.len c.args.mem.now c.args.addr p.1) p.2)
+    record { count = p.0; are = rw (sent, take_bytes_at p.0 c.args.len c.args.mem.now c.args.addr p.1) p.2 }
