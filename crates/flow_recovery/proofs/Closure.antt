@@ -7,9 +7,10 @@ use Rattle.elf_image.specs.Layout.{LieFrom}
 use Rattle.flow_recovery.proofs.Segments.{code_below}
 use Rattle.elf_image.specs.declared.image.Elf.{Elf}
 use Rattle.rv64_decode.specs.Row.{next_pc}
-use Rattle.flow_recovery.specs.Code.{IsCode}
-use Rattle.flow_recovery.specs.Flows.{before, flow_at, pair_at, successors}
-use Rattle.flow_recovery.specs.Reaching.{Reached, entry, alone, paired, AreAllReached}
+use Rattle.loop_data.specs.Code.{IsCode}
+use Rattle.loop_data.specs.Targets.{before, targets_at, pair_at, successors}
+use Rattle.loop_data.specs.Reaching.{Reached, entry, alone, paired}
+use Rattle.flow_recovery.specs.Reaching.{AreAllReached}
 use Rattle.flow_recovery.specs.Search.{HasCodeOf, Grows, IsVisited, AreReached}
 use Rattle.flow_recovery.proofs.Found.{Contains-grown, take-grown}
 use Rattle.flow_recovery.proofs.Following.{wider}
@@ -18,34 +19,34 @@ pub HasCodeOf-grown : (elf : Elf) (old found targets : List ℕ) → Grows old f
 HasCodeOf-grown elf old found targets g h = record { has = λ b m code. Contains-grown old found b g (h.has b m code) }
 
 -- what was found by following a word
-visited_alone : (elf : Elf) (found : List ℕ) (at : ℕ) (pair : Option ℕ) → HasCodeOf elf found (successors at (flow_at elf pair at)) → HasCodeOf elf found (successors at (flow_at elf None at))
+visited_alone : (elf : Elf) (found : List ℕ) (at : ℕ) (pair : Option ℕ) → HasCodeOf elf found (successors (targets_at elf pair at)) → HasCodeOf elf found (successors (targets_at elf None at))
 visited_alone elf found at pair h = record { has = λ b m code. h.has b (wider elf at pair b m) code }
 
 visited_paired : (elf : Elf) (old found : List ℕ) (at : ℕ) (pair : Option ℕ) (target : ℕ)
     → (Contains old (before at) × (pair ≡ pair_at elf at)) ⊎ ((¬ Contains old (before at)) × (pair ≡ None))
-    → HasCodeOf elf found (successors at (flow_at elf pair at))
-    → Contains old (before at) → pair_at elf at ≡ Some target → HasCodeOf elf found (successors at (flow_at elf (Some target) at))
-visited_paired elf old found at pair target (inl p) h m e = subst (λ q. HasCodeOf elf found (successors at (flow_at elf q at))) (p.1 ∙ e) h
+    → HasCodeOf elf found (successors (targets_at elf pair at))
+    → Contains old (before at) → pair_at elf at ≡ Some target → HasCodeOf elf found (successors (targets_at elf (Some target) at))
+visited_paired elf old found at pair target (inl p) h m e = subst (λ q. HasCodeOf elf found (successors (targets_at elf q at))) (p.1 ∙ e) h
 visited_paired elf old found at pair target (inr p) h m e = absurd (p.0 m)
 
 visited_behind : (elf : Elf) (mid found : List ℕ) (second next : ℕ) (behind : Option ℕ) (target : ℕ) → second ≡ next → behind ≡ pair_at elf second
-    → (Contains mid second → IsTrue (is_some behind) → HasCodeOf elf found (successors second (flow_at elf behind second)))
-    → Contains mid next → pair_at elf next ≡ Some target → HasCodeOf elf found (successors next (flow_at elf (Some target) next))
+    → (Contains mid second → IsTrue (is_some behind) → HasCodeOf elf found (successors (targets_at elf behind second)))
+    → Contains mid next → pair_at elf next ≡ Some target → HasCodeOf elf found (successors (targets_at elf (Some target) next))
 visited_behind elf mid found second next behind target s p h m e =
     let told : behind ≡ Some target = p ∙ ap (pair_at elf) s ∙ e in
     let here : Contains mid second = subst (Contains mid) (sym s) m in
     let all = h here (ap is_some told) in
-    subst (λ x. HasCodeOf elf found (successors x (flow_at elf (Some target) x))) s
-    (subst (λ q. HasCodeOf elf found (successors second (flow_at elf q second))) told all)
+    subst (λ x. HasCodeOf elf found (successors (targets_at elf (Some target) x))) s
+    (subst (λ q. HasCodeOf elf found (successors (targets_at elf q second))) told all)
 
 pub visited : (elf : Elf) (old mid found : List ℕ) (at second : ℕ) (pair behind : Option ℕ) → Grows old mid → Grows mid found
     → (Contains old (before at) × (pair ≡ pair_at elf at)) ⊎ ((¬ Contains old (before at)) × (pair ≡ None))
-    → HasCodeOf elf mid (successors at (flow_at elf pair at))
+    → HasCodeOf elf mid (successors (targets_at elf pair at))
     → second ≡ next_pc at → behind ≡ pair_at elf second
-    → (Contains mid second → IsTrue (is_some behind) → HasCodeOf elf found (successors second (flow_at elf behind second)))
+    → (Contains mid second → IsTrue (is_some behind) → HasCodeOf elf found (successors (targets_at elf behind second)))
     → IsVisited elf old at found
 visited elf old mid found at second pair behind g h cases has s p later =
-    let has' = HasCodeOf-grown elf mid found (successors at (flow_at elf pair at)) h has in
+    let has' = HasCodeOf-grown elf mid found (successors (targets_at elf pair at)) h has in
     record {
       alone = visited_alone elf found at pair has';
       paired = λ target m e. visited_paired elf old found at pair target cases has' m e;
@@ -54,8 +55,8 @@ visited elf old mid found at second pair behind g h cases has s p later =
 
 -- each of these words leads to words found alone
 pub record LeadTo (elf : Elf) (visited found : List ℕ) : Type 0 where
-  pub alone : (a : ℕ) → Contains visited a → HasCodeOf elf found (successors a (flow_at elf None a))
-  pub paired : (a target : ℕ) → Contains visited a → Contains visited (before a) → pair_at elf a ≡ Some target → HasCodeOf elf found (successors a (flow_at elf (Some target) a))
+  pub alone : (a : ℕ) → Contains visited a → HasCodeOf elf found (successors (targets_at elf None a))
+  pub paired : (a target : ℕ) → Contains visited a → Contains visited (before a) → pair_at elf a ≡ Some target → HasCodeOf elf found (successors (targets_at elf (Some target) a))
 
 pub LeadTo-none : (elf : Elf) (found : List ℕ) → LeadTo elf [] found
 LeadTo-none elf found =
@@ -76,22 +77,22 @@ LeadTo-push elf visited old found at lead within small here g now =
       paired = λ a target m n e. by_paired a target (Contains-push_cases visited at a m) (Contains-push_cases visited at (before a) n) e;
     }
   where
-    by_alone : (a : ℕ) → Contains visited a ⊎ (at ≡ a) → HasCodeOf elf found (successors a (flow_at elf None a))
+    by_alone : (a : ℕ) → Contains visited a ⊎ (at ≡ a) → HasCodeOf elf found (successors (targets_at elf None a))
     by_alone a (inl m) = HasCodeOf-grown elf old found _ g (lead.alone a m)
-    by_alone a (inr e) = subst (λ x. HasCodeOf elf found (successors x (flow_at elf None x))) e now.alone
+    by_alone a (inr e) = subst (λ x. HasCodeOf elf found (successors (targets_at elf None x))) e now.alone
 
     in_old : (a : ℕ) → Contains visited a ⊎ (at ≡ a) → Contains old a
     in_old a (inl m) = within a m
     in_old a (inr e) = subst (Contains old) e here
 
-    by_paired : (a target : ℕ) → Contains visited a ⊎ (at ≡ a) → Contains visited (before a) ⊎ (at ≡ before a) → pair_at elf a ≡ Some target → HasCodeOf elf found (successors a (flow_at elf (Some target) a))
+    by_paired : (a target : ℕ) → Contains visited a ⊎ (at ≡ a) → Contains visited (before a) ⊎ (at ≡ before a) → pair_at elf a ≡ Some target → HasCodeOf elf found (successors (targets_at elf (Some target) a))
     by_paired a target (inl m) (inl n) e = HasCodeOf-grown elf old found _ g (lead.paired a target m n e)
     by_paired a target (inr q) n e =
-        subst (λ x. HasCodeOf elf found (successors x (flow_at elf (Some target) x))) q
+        subst (λ x. HasCodeOf elf found (successors (targets_at elf (Some target) x))) q
         (now.paired target (subst (λ x. Contains old (before x)) (sym q) (in_old (before a) n)) (ap (pair_at elf) q ∙ e))
     by_paired a target (inl m) (inr q) e =
         let is : next_pc at ≡ a = ap next_pc q ∙ next_before a (small a (within a m)) in
-        subst (λ x. HasCodeOf elf found (successors x (flow_at elf (Some target) x))) is
+        subst (λ x. HasCodeOf elf found (successors (targets_at elf (Some target) x))) is
         (now.behind target (subst (Contains old) (sym is) (within a m)) (ap (pair_at elf) is ∙ e))
 
 -- once each word found leads to words found alone, all that are reached are found

@@ -14,8 +14,9 @@ use Rattle.std.proofs.lemmas.Map.Views.{exact_unsigned_eq}
 use Rattle.std.proofs.lemmas.Option.{slice_get_read}
 use Rattle.indexmap.proofs.CallerLemmas.{Contains-list_any}
 use Rattle.elf_image.specs.declared.image.Elf.{Elf}
-use Rattle.flow_recovery.specs.Graphs.{IsCall, IsStart}
-use Rattle.flow_recovery.specs.Reaching.{Reached, AreAllReached}
+use Rattle.loop_data.specs.Graphs.{IsCall, IsStart}
+use Rattle.loop_data.specs.Reaching.{Reached}
+use Rattle.flow_recovery.specs.Reaching.{AreAllReached}
 use Rattle.flow_recovery.specs.Refusals.{ReachesAtLeast}
 
 -- numbers that differ, sorted

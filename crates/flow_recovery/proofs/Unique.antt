@@ -7,11 +7,11 @@ use Rattle.std.proofs.lemmas.Option.{same_Some}
 use Rattle.elf_image.specs.declared.image.Elf.{Elf}
 use Rattle.loop_data.specs.declared.graph.Word.{Word}
 use Rattle.loop_data.specs.declared.graph.Graph.{Graph}
-use Rattle.flow_recovery.specs.Code.{word_at}
-use Rattle.flow_recovery.specs.Flows.{steps_of}
-use Rattle.flow_recovery.specs.Graphs.{addresses_of, IsWord, IsGraph}
-use Rattle.flow_recovery.specs.Reaching.{HasFlow}
-use Rattle.flow_recovery.specs.declared.flow.Flow.{Flow}
+use Rattle.loop_data.specs.Code.{word_at}
+use Rattle.loop_data.specs.Targets.{Targets}
+use Rattle.loop_data.specs.Graphs.{IsWordOf, IsGraph}
+use Rattle.loop_data.specs.Paths.{addresses_of}
+use Rattle.loop_data.specs.Reaching.{HasTargets}
 
 -- each number is below all later ones
 abbrev Rises : List ℕ → Type 0
@@ -60,28 +60,28 @@ same_lists (x ∷ xs) (y ∷ ys) p q f g =
         later (inl same) = absurd (let b = above y ys a q m in omega arith)
         later (inr n) = n
 
-same_flow : (elf : Elf) (a : ℕ) (f g : Flow) → HasFlow elf a f → HasFlow elf a g → f ≡ g
-same_flow elf a f g (inl p) (inl q) = p.1 ∙ sym q.1
-same_flow elf a f g (inl p) (inr q) = absurd (q.0 p.0)
-same_flow elf a f g (inr p) (inl q) = absurd (p.0 q.0)
-same_flow elf a f g (inr p) (inr q) = p.1 ∙ sym q.1
+same_targets : (elf : Elf) (a : ℕ) (f g : Targets) → HasTargets elf a f → HasTargets elf a g → f ≡ g
+same_targets elf a f g (inl p) (inl q) = p.1 ∙ sym q.1
+same_targets elf a f g (inl p) (inr q) = absurd (q.0 p.0)
+same_targets elf a f g (inr p) (inl q) = absurd (p.0 q.0)
+same_targets elf a f g (inr p) (inr q) = p.1 ∙ sym q.1
 
-same_word : (elf : Elf) (u v : Word) → IsWord elf u → IsWord elf v → u.at ≡ v.at → u ≡ v
+same_word : (elf : Elf) (u v : Word) → IsWordOf elf u → IsWordOf elf v → u.at ≡ v.at → u ≡ v
 same_word elf u v p q at =
     let bits : u.bits ≡ v.bits = same_Some u.bits v.bits (sym p.bits ∙ ap (word_at elf) at ∙ q.bits) in
-    let flow : p.flow ≡ q.flow = same_flow elf v.at p.flow q.flow (subst (λ a. HasFlow elf a p.flow) at p.leads) q.leads in
-    let steps : u.steps.items ≡ v.steps.items = p.steps ∙ (λ j. steps_of (at j) (flow j)) ∙ sym q.steps in
+    let targets : p.targets ≡ q.targets = same_targets elf v.at p.targets q.targets (subst (λ a. HasTargets elf a p.targets) at p.leads) q.leads in
+    let steps : u.steps.items ≡ v.steps.items = p.steps ∙ ap (λ (t : Targets). t.steps) targets ∙ sym q.steps in
     λ j. record { at = at j; bits = bits j; steps = record { items = steps j } }
 
-same_words : (elf : Elf) (us vs : List Word) → All (IsWord elf) us → All (IsWord elf) vs → addresses_of us ≡ addresses_of vs → us ≡ vs
+same_words : (elf : Elf) (us vs : List Word) → All (IsWordOf elf) us → All (IsWordOf elf) vs → addresses_of us ≡ addresses_of vs → us ≡ vs
 same_words elf [] [] p q e = refl
 same_words elf [] (v ∷ vs) p q e = absurd (let l = ap length e in omega arith)
 same_words elf (u ∷ us) [] p q e = absurd (let l = ap length e in omega arith)
 same_words elf (u ∷ us) (v ∷ vs) p q e =
     let at : u.at ≡ v.at = cc e in
     let later : addresses_of us ≡ addresses_of vs = cc e in
-    let first = same_word elf u v (All-head (IsWord elf) u us p) (All-head (IsWord elf) v vs q) at in
-    let rest = same_words elf us vs (All-tail (IsWord elf) u us p) (All-tail (IsWord elf) v vs q) later in
+    let first = same_word elf u v (All-head (IsWordOf elf) u us p) (All-head (IsWordOf elf) v vs q) at in
+    let rest = same_words elf us vs (All-tail (IsWordOf elf) u us p) (All-tail (IsWordOf elf) v vs q) later in
     λ j. first j ∷ rest j
 
 pub same_graphs : (elf : Elf) (g h : Graph) → IsGraph elf g → IsGraph elf h → g ≡ h

@@ -1,22 +1,7 @@
--- The reached words of an executable: the least set that holds the entry and all that its words lead to.
-use Rattle.std.specs.Prelude.{ℕ, ◌≡◌, List, Some, None, Contains, ◌⊎◌}
+-- Words that a search finds.
+use Rattle.std.specs.Prelude.{ℕ, List, Contains}
 use Rattle.elf_image.specs.declared.image.Elf.{Elf}
-use Rattle.flow_recovery.specs.Code.{IsCode}
-use Rattle.flow_recovery.specs.Flows.{before, flow_at, pair_at, successors}
-use Rattle.flow_recovery.specs.declared.flow.Flow.{Flow}
-
--- the word at an address is reached: it is the entry, or a reached word leads to it, alone or as the
--- second of a pair whose first word is reached too. Only words of code are reached
-pub data Reached (elf : Elf) : ℕ → Type 0 where
-  entry : IsCode elf elf.entry → Reached elf elf.entry
-  alone : (a b : ℕ) → Reached elf a → Contains (successors a (flow_at elf None a)) b → IsCode elf b → Reached elf b
-  paired : (a b target : ℕ) → Reached elf a → Reached elf (before a) → pair_at elf a ≡ Some target → Contains (successors a (flow_at elf (Some target) a)) b → IsCode elf b → Reached elf b
-
--- where a reached word leads: as the second of a pair exactly where the word before it is reached
-abbrev pub HasFlow : Elf → ℕ → Flow → Type 0
-HasFlow elf a flow =
-    (Reached elf (before a) × (flow ≡ flow_at elf (pair_at elf a) a))
-    ⊎ ((¬ Reached elf (before a)) × (flow ≡ flow_at elf None a))
+use Rattle.loop_data.specs.Reaching.{Reached}
 
 -- these are the reached words
 pub record AreAllReached (elf : Elf) (found : List ℕ) : Type 0 where

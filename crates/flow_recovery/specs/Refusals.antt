@@ -2,7 +2,7 @@
 use Rattle.std.specs.Prelude.{ℕ, ◌≡◌, ◌+◌, List, length, All, nat_eq}
 use Rattle.std.specs.List.{IsDistinct}
 use Rattle.elf_image.specs.declared.image.Elf.{Elf}
-use Rattle.flow_recovery.specs.Reaching.{Reached}
+use Rattle.loop_data.specs.Reaching.{Reached}
 use Rattle.flow_recovery.specs.declared.refusal.FlowErr.{FlowErr}
 use Rattle.flow_recovery.specs.declared.refusal.FlowErr.TheVariants.{TooManyWords, OutOfMemory}
 

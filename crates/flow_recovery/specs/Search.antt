@@ -2,9 +2,9 @@
 use Rattle.std.specs.Prelude.{ℕ, ◌≡◌, ◌≤◌, List, ◌++◌, length, Some, None, All, Contains}
 use Rattle.rv64_decode.specs.Row.{next_pc}
 use Rattle.elf_image.specs.declared.image.Elf.{Elf}
-use Rattle.flow_recovery.specs.Code.{IsCode}
-use Rattle.flow_recovery.specs.Flows.{before, flow_at, pair_at, successors}
-use Rattle.flow_recovery.specs.Reaching.{Reached}
+use Rattle.loop_data.specs.Code.{IsCode}
+use Rattle.loop_data.specs.Targets.{before, targets_at, pair_at, successors}
+use Rattle.loop_data.specs.Reaching.{Reached}
 use Rattle.flow_recovery.specs.Refusals.{word_limit}
 
 -- those of the addresses at which there is code are found
@@ -23,6 +23,6 @@ pub record AreReached (elf : Elf) (found : List ℕ) : Type 0 where
 
 -- what `at` leads to is found, and also what the word behind it leads to as the second of a pair
 pub record IsVisited (elf : Elf) (old : List ℕ) (at : ℕ) (found : List ℕ) : Type 0 where
-  pub alone : HasCodeOf elf found (successors at (flow_at elf None at))
-  pub paired : (target : ℕ) → Contains old (before at) → pair_at elf at ≡ Some target → HasCodeOf elf found (successors at (flow_at elf (Some target) at))
-  pub behind : (target : ℕ) → Contains old (next_pc at) → pair_at elf (next_pc at) ≡ Some target → HasCodeOf elf found (successors (next_pc at) (flow_at elf (Some target) (next_pc at)))
+  pub alone : HasCodeOf elf found (successors (targets_at elf None at))
+  pub paired : (target : ℕ) → Contains old (before at) → pair_at elf at ≡ Some target → HasCodeOf elf found (successors (targets_at elf (Some target) at))
+  pub behind : (target : ℕ) → Contains old (next_pc at) → pair_at elf (next_pc at) ≡ Some target → HasCodeOf elf found (successors (targets_at elf (Some target) (next_pc at)))

@@ -1,6 +1,6 @@
 ghost use Rattle.std.specs.Prelude.{◌≡◌, ◌+◌, ◌<◌, ◌≤◌, ◌^◌};
 ghost use Rattle.elf_image.specs.Layout.{IsLoadable, load_end};
-ghost use Rattle.flow_recovery.specs.Code.{byte_in, word_in, is_code_of, word_at};
+ghost use Rattle.loop_data.specs.Code.{byte_in, word_in, is_code_of, word_at};
 
 use elf_image::{Elf, Segment};
 
@@ -16,7 +16,7 @@ fn byte_in(segment: &Segment, addr: u64) -> u8
 }
 
 // The word of four bytes at an address, the lowest first.
-#[tactic(auto, unfolding(crate::specs::Code::word_in))]
+#[tactic(auto, unfolding(loop_data::specs::Code::word_in))]
 fn word_in(segment: &Segment, addr: u64) -> u32
     requires { addr + 3 < 2 ^ 64 }
     ensures { result ≡ word_in segment.now addr }
@@ -39,7 +39,7 @@ fn is_code_of(segment: &Segment, addr: u64) -> bool
 
 /// The instruction word at an address: at a multiple of 4 in the widened byte range of an executable
 /// segment. Bytes that the file does not have are 0.
-#[tactic(auto, unfolding(crate::specs::Code::word_at))]
+#[tactic(auto, unfolding(loop_data::specs::Code::word_at))]
 pub fn word_at(elf: &Elf, addr: u64) -> Option<u32>
     requires { IsLoadable elf.now }
     ensures { result ≡ word_at elf.now addr }

@@ -1,8 +1,9 @@
-ghost use Rattle.std.specs.Prelude.{◌≡◌};
+ghost use Rattle.std.specs.Prelude.{◌≡◌, ℕ};
 ghost use Rattle.elf_image.specs.Layout.{IsLoadable};
 ghost use Rattle.rv64_decode.specs.Row.{shifted, next_pc};
-ghost use Rattle.flow_recovery.specs.Code.{word_at};
-ghost use Rattle.flow_recovery.specs.Flows.{before, instr_of, instr_at, asks_exit, flow_by, flow_outside, flow_at, pair_by, pair_at};
+ghost use Rattle.loop_data.specs.Code.{word_at};
+ghost use Rattle.loop_data.specs.Targets.{before, instr_of, instr_at, asks_exit, targets_by, targets_outside, targets_at, pair_by, pair_at};
+ghost use Rattle.flow_recovery.specs.Flows.{targets_in};
 
 use crate::code::word_at;
 use elf_image::Elf;
@@ -45,7 +46,7 @@ pub(crate) fn before(at: u64) -> u64
 }
 
 // The instruction that a word stands for.
-#[tactic(auto, unfolding(crate::specs::Flows::instr_of))]
+#[tactic(auto, unfolding(loop_data::specs::Targets::instr_of))]
 fn instr_of(word: u32) -> Option<Instr>
     ensures { result ≡ instr_of word }
 {
@@ -53,7 +54,7 @@ fn instr_of(word: u32) -> Option<Instr>
 }
 
 // The instruction at an address.
-#[tactic(auto, unfolding(crate::specs::Flows::instr_at))]
+#[tactic(auto, unfolding(loop_data::specs::Targets::instr_at))]
 fn instr_at(elf: &Elf, at: u64) -> Option<Instr>
     requires { IsLoadable elf.now }
     ensures { result ≡ instr_at elf.now at }
@@ -84,7 +85,7 @@ fn asks_exit(instr: &Option<Instr>) -> bool
 
 // Where an instruction leads.
 fn flow_by(instr: &Instr, at: u64, ends: bool, pair: Option<u64>) -> Flow
-    ensures { result ≡ flow_by instr.now at ends pair }
+    ensures { targets_in at result ≡ targets_by instr.now at ends pair }
 {
     match *instr {
         Instr::Branch { imm, .. } => Flow::Branch(shifted(at, imm)),
@@ -110,7 +111,7 @@ fn flow_by(instr: &Instr, at: u64, ends: bool, pair: Option<u64>) -> Flow
 
 // Where a word outside the table leads.
 fn flow_outside(word: u32) -> Flow
-    ensures { result ≡ flow_outside word }
+    ensures { (at : ℕ) → targets_in at result ≡ targets_outside word at }
 {
     if word % 4 == 3 && word / 4 % 8 != 7 {
         Flow::On
@@ -120,10 +121,10 @@ fn flow_outside(word: u32) -> Flow
 }
 
 // Where the word at an address leads. A pair that it ends is told by its target.
-#[tactic(auto, unfolding(crate::specs::Flows::flow_at))]
+#[tactic(auto, unfolding(loop_data::specs::Targets::targets_at))]
 pub(crate) fn flow_at(elf: &Elf, pair: Option<u64>, at: u64) -> Flow
     requires { IsLoadable elf.now }
-    ensures { result ≡ flow_at elf.now pair at }
+    ensures { targets_in at result ≡ targets_at elf.now pair at }
 {
     match word_at(elf, at) {
         None => Flow::Stop,
@@ -157,7 +158,7 @@ fn pair_by(first: &Instr, second: &Instr, at: u64) -> Option<u64>
 }
 
 // The target of the pair that ends at an address, if one does.
-#[tactic(auto, unfolding(crate::specs::Flows::pair_at))]
+#[tactic(auto, unfolding(loop_data::specs::Targets::pair_at))]
 pub(crate) fn pair_at(elf: &Elf, at: u64) -> Option<u64>
     requires { IsLoadable elf.now }
     ensures { result ≡ pair_at elf.now at }

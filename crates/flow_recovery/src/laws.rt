@@ -2,8 +2,8 @@ ghost use Rattle.std.specs.Prelude.{◌≡◌, ◌%◌, ℕ, true};
 ghost use Rattle.elf_image.specs.Layout.{IsLoadable, in_code};
 ghost use Rattle.elf_image.specs.declared.image.Elf.{Elf};
 ghost use Rattle.loop_data.specs.declared.graph.Graph.{Graph};
-ghost use Rattle.flow_recovery.specs.Graphs.{IsGraph};
-ghost use Rattle.flow_recovery.specs.Reaching.{Reached};
+ghost use Rattle.loop_data.specs.Graphs.{IsGraph};
+ghost use Rattle.loop_data.specs.Reaching.{Reached};
 
 /// Only aligned words of executable segments are reached, and the entry is one.
 pub fn reached_words()

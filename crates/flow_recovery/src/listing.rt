@@ -1,9 +1,11 @@
 ghost use Rattle.std.specs.Prelude.{◌≡◌, ◌↔◌, ◌⊎◌, ℕ, All, Contains, IfOk, OnOk, length};
 ghost use Rattle.std.specs.List.Sorted.{IsStrictlyIncreasing};
 ghost use Rattle.elf_image.specs.Layout.{IsLoadable};
-ghost use Rattle.flow_recovery.specs.Flows.{steps_of};
-ghost use Rattle.flow_recovery.specs.Graphs.{addresses_of, IsCall, IsStart, IsWord};
-ghost use Rattle.flow_recovery.specs.Reaching.{Reached, HasFlow, AreAllReached};
+ghost use Rattle.loop_data.specs.Graphs.{IsCall, IsStart, IsWordOf};
+ghost use Rattle.loop_data.specs.Paths.{addresses_of};
+ghost use Rattle.flow_recovery.specs.Flows.{targets_in};
+ghost use Rattle.loop_data.specs.Reaching.{Reached, HasTargets};
+ghost use Rattle.flow_recovery.specs.Reaching.{AreAllReached};
 
 use crate::code::word_at;
 use crate::flow::{Flow, flow_at, next};
@@ -18,14 +20,14 @@ use std::alloc::{AllocError, Global};
 fn flow_in(elf: &Elf, found: &IndexSet<u64>, at: u64) -> Flow
     requires loadable { IsLoadable elf.now }
     requires found { AreAllReached elf.now found.now.keys }
-    ensures { HasFlow elf.now at result }
+    ensures { HasTargets elf.now at (targets_in at result) }
 {
     flow_at(elf, pair_in(elf, found, at), at)
 }
 
 // Where a word leads by step edges.
 fn steps_of(at: u64, flow: Flow) -> ArrayVec<u64, 2>
-    ensures { result.items ≡ steps_of at flow }
+    ensures { result.items ≡ (targets_in at flow).steps }
 {
     let mut steps = ArrayVec::new();
     match flow {
@@ -48,7 +50,7 @@ fn reached_word(elf: &Elf, found: &IndexSet<u64>, at: u64) -> Word
     requires found { AreAllReached elf.now found.now.keys }
     requires reached { Reached elf.now at }
     ensures at { result.at ≡ at }
-    ensures word { IsWord elf.now result }
+    ensures word { IsWordOf elf.now result }
 {
     let bits = word_at(elf, at).unwrap();
     let flow = flow_in(elf, found, at);
@@ -70,7 +72,7 @@ pub(crate) fn words_at(
     requires found { AreAllReached elf.now found.now.keys }
     requires reached { All (Reached elf.now) addresses.now }
     ensures addresses { IfOk result (λ words. addresses_of words.items ≡ addresses.now) }
-    ensures words { IfOk result (λ words. All (IsWord elf.now) words.items) }
+    ensures words { IfOk result (λ words. All (IsWordOf elf.now) words.items) }
 {
     let mut words = Vec::with_capacity(alloc, addresses.len())?;
     for at in addresses {

@@ -1,8 +1,9 @@
 ghost use Rattle.std.specs.Prelude.{◌≡◌, ◌↔◌, ◌⊎◌, ◌<◌, ◌≤◌, ℕ, IsTrue, None, Contains, IfOk, IfErr, OnOk, length};
 ghost use Rattle.elf_image.specs.Layout.{IsLoadable};
-ghost use Rattle.flow_recovery.specs.Code.{IsCode};
-ghost use Rattle.flow_recovery.specs.Flows.{before, flow_at, pair_at, successors};
-ghost use Rattle.flow_recovery.specs.Reaching.{Reached, AreAllReached};
+ghost use Rattle.loop_data.specs.Code.{IsCode};
+ghost use Rattle.loop_data.specs.Targets.{before, targets_at, pair_at, successors};
+ghost use Rattle.loop_data.specs.Reaching.{Reached};
+ghost use Rattle.flow_recovery.specs.Reaching.{AreAllReached};
 ghost use Rattle.flow_recovery.specs.Search.{HasCodeOf, Grows, AreReached, IsVisited};
 ghost use Rattle.flow_recovery.specs.Refusals.{IsRefused, word_limit};
 
@@ -60,10 +61,10 @@ fn add(elf: &Elf, found: &mut IndexSet<u64>, at: u64) -> Result<(), FlowErr>
 fn follow(elf: &Elf, found: &mut IndexSet<u64>, at: u64, pair: Option<u64>) -> Result<(), FlowErr>
     requires loadable { IsLoadable elf.now }
     requires reached { AreReached elf.now found.old.keys }
-    requires leads { (b : ℕ) → Contains (successors at (flow_at elf.now pair at)) b → IsCode elf.now b → Reached elf.now b }
+    requires leads { (b : ℕ) → Contains (successors (targets_at elf.now pair at)) b → IsCode elf.now b → Reached elf.now b }
     ensures reached { OnOk result (AreReached elf.now found.new.keys) }
     ensures grows { OnOk result (Grows found.old.keys found.new.keys) }
-    ensures has { OnOk result (HasCodeOf elf.now found.new.keys (successors at (flow_at elf.now pair at))) }
+    ensures has { OnOk result (HasCodeOf elf.now found.new.keys (successors (targets_at elf.now pair at))) }
     ensures refused { IfErr result (IsRefused elf.now) }
 {
     match flow_at(elf, pair, at) {

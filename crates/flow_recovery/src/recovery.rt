@@ -1,6 +1,6 @@
 ghost use Rattle.std.specs.Prelude.{◌+◌, IfOk, IfErr, OnOk};
 ghost use Rattle.elf_image.specs.Layout.{IsLoadable};
-ghost use Rattle.flow_recovery.specs.Graphs.{IsGraph};
+ghost use Rattle.loop_data.specs.Graphs.{IsGraph};
 ghost use Rattle.flow_recovery.specs.Refusals.{IsRefused, ReachesAtLeast, word_limit};
 
 use crate::listing::{in_order, start_words, words_at};

@@ -1,4 +1,9 @@
-// What is known of a program's loops: its reached words, their loops, and a verdict for each.
+//! What is known of a program's loops: its reached words, their loops, and a verdict for each.
+//!
+//! `specs/` has the definitions that all crates about loops cite: the reached words of an executable as a
+//! graph (`Code`, `Targets`, `Reaching`, `Graphs`), and its loops (`Paths`, `Sets`, `Bodies`,
+//! `Instructions`, `Shape`, `Early`, `Listed`, `Loops`). They speak of addresses, words and what these
+//! stand for, and of nothing of the code that finds them.
 #![tactic(auto)]
 
 pub mod graph;

@@ -18,8 +18,9 @@ use Rattle.loop_shapes.specs.declared.kind.Class.{Class}
 use Rattle.loop_shapes.specs.declared.kind.Class.TheVariants.{Jump, RegisterJump, Ask, Nothing, Fork, UpperPc, Other}
 use Rattle.loop_shapes.specs.declared.kind.Kind.{Kind}
 use Rattle.loop_shapes.specs.declared.kind.Kind.TheVariants.{Calls, Asks, JumpsAnywhere, IsNothing, Branches}
-use Rattle.loop_shapes.specs.Paths.{addresses, IsInOrder, IsWord}
-use Rattle.loop_shapes.specs.Instructions.{Means, IsPaired, HasKind}
+use Rattle.loop_data.specs.Paths.{addresses, IsInOrder, IsWord}
+use Rattle.loop_data.specs.Instructions.{Means, IsPaired}
+use Rattle.loop_shapes.specs.Kinds.{HasKind}
 use Rattle.loop_shapes.specs.Class.{class_of, HasClass, HasPairing, does_of}
 use Rattle.loop_shapes.proofs.Rows.{same_place, address_at}
 
@@ -104,7 +105,7 @@ module _ (G : Graph) (up : IsInOrder G) (x : ℕ) where
   means_as : (class : Class) (i : Option Instr) (h : HasClass G x class) → decoded h.word.bits ≡ i → Means G x i
   means_as class i h e = record { word = h.word; among = h.among; at = h.at; means = e }
 
-  kind_from : (k : Kind) (class : Class) (paired : Bool) → HasClass G x class → HasPairing G x class paired → does_of k class paired ≡ true → HasKind G k x
+  kind_from : (k : Kind) (class : Class) (paired : Bool) → HasClass G x class → HasPairing G x class paired → does_of k class paired ≡ true → HasKind k G x
   kind_from Calls (Jump rd) paired h p e =
       let i = jump_from (decoded h.word.bits) rd h.is in
       inl (record { rd = rd; imm = i.0; links = λ z. links rd z e; means = means_as (Jump rd) (Some (Jal rd i.0)) h i.1 })
@@ -165,7 +166,7 @@ module _ (G : Graph) (up : IsInOrder G) (x : ℕ) where
   kind_from Branches (UpperPc rd) paired h p e = absurd (false≢true e)
   kind_from Branches Other paired h p e = absurd (false≢true e)
 
-  kind_to : (k : Kind) (class : Class) (paired : Bool) → HasClass G x class → HasPairing G x class paired → HasKind G k x → does_of k class paired ≡ true
+  kind_to : (k : Kind) (class : Class) (paired : Bool) → HasClass G x class → HasPairing G x class paired → HasKind k G x → does_of k class paired ≡ true
   kind_to Calls class paired h p (inl j) =
       let e = class_unique class (Some (Jal j.rd j.imm)) h j.means in
       subst (λ (q : Class). does_of Calls q paired ≡ true) e (links j.rd j.links)
@@ -192,13 +193,13 @@ module _ (G : Graph) (up : IsInOrder G) (x : ℕ) where
   kind_to IsNothing class paired h p m = subst (λ (q : Class). does_of IsNothing q paired ≡ true) (class_unique class None h m) refl
   kind_to Branches class paired h p b = subst (λ (q : Class). does_of Branches q paired ≡ true) (class_unique class (Some (Branch b.op b.rs1 b.rs2 b.imm)) h b.means) refl
 
-  pub kind_says : (k : Kind) (class : Class) (paired b : Bool) → HasClass G x class → HasPairing G x class paired → b ≡ does_of k class paired → IsTrue b ↔ HasKind G k x
+  pub kind_says : (k : Kind) (class : Class) (paired b : Bool) → HasClass G x class → HasPairing G x class paired → b ≡ does_of k class paired → IsTrue b ↔ HasKind k G x
   kind_says k class paired b h p e = (λ t. kind_from k class paired h p (sym e ∙ t), λ q. e ∙ kind_to k class paired h p q)
 
-  pub no_kind : (k : Kind) → ¬ IsWord G x → IsTrue false ↔ HasKind G k x
+  pub no_kind : (k : Kind) → ¬ IsWord G x → IsTrue false ↔ HasKind k G x
   no_kind k absent = (λ t. absurd (false≢true t), λ q. absurd (absent (a_word k q)))
     where
-      a_word : (k : Kind) → HasKind G k x → IsWord G x
+      a_word : (k : Kind) → HasKind k G x → IsWord G x
       a_word Calls (inl j) = word_of_meaning G x (Some (Jal j.rd j.imm)) j.means
       a_word Calls (inr j) = word_of_meaning G x (Some (Jalr j.rd j.rs1 j.imm)) j.means
       a_word Asks m = word_of_meaning G x (Some Ecall) m

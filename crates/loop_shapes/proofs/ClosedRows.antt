@@ -9,7 +9,7 @@ use Rattle.std.specs.declared.alloc.Global.{Global}
 use Rattle.loop_data.specs.declared.graph.Graph.{Graph}
 use Rattle.loop_shapes.specs.Rows.{rows, items_of}
 use Rattle.loop_shapes.specs.Places.{HasSources, in_row, count_of, at}
-use Rattle.loop_shapes.specs.Bodies.{IsClosed}
+use Rattle.loop_data.specs.Bodies.{IsClosed}
 use Rattle.loop_shapes.specs.Net.{AreClosed, AreClosedOf, HasTriedEdge}
 use Rattle.loop_shapes.proofs.Rows.{none_in, contains_more}
 

@@ -5,15 +5,15 @@ use Rattle.std.specs.List.{Contains}
 use Rattle.std.proofs.lemmas.Bool.{cases_eq, cases_lt}
 use Rattle.std.proofs.lemmas.List.{get_or-set_same, get_or-set_other, length-set, take_all}
 use Rattle.loop_data.specs.declared.graph.Graph.{Graph}
-use Rattle.loop_shapes.specs.Paths.{addresses, IsInOrder, IsWord, Leads}
+use Rattle.loop_data.specs.Paths.{addresses, IsInOrder, IsWord, Leads}
 use Rattle.loop_shapes.specs.Places.{HasSources, count_of, at, in_row}
-use Rattle.loop_shapes.specs.Sets.{IsListOf}
-use Rattle.loop_shapes.specs.Bodies.{IsHeader, InBody}
+use Rattle.loop_data.specs.Sets.{IsListOf}
+use Rattle.loop_data.specs.Bodies.{IsHeader, InBody}
 use Rattle.loop_shapes.specs.Numbers.{AreNumbers}
 use Rattle.loop_shapes.specs.Gains.{Gained, HasAll}
 use Rattle.loop_shapes.specs.Lines.{IsRowOf, AreRowsOf}
-use Rattle.loop_shapes.specs.Listed.{IsListed}
-use Rattle.loop_shapes.specs.Covering.{IsReturn, IsApart, IsCovered}
+use Rattle.loop_data.specs.Listed.{IsListed}
+use Rattle.loop_shapes.specs.Covering.{IsReturn, IsLeftOver, IsCovered}
 use Rattle.loop_shapes.proofs.Ways.{stop, step}
 use Rattle.loop_shapes.proofs.Lists.{rises, from_in}
 use Rattle.loop_shapes.proofs.Rows.{none_in, alone, same_place, contains_more}
@@ -114,13 +114,13 @@ covered_more G body xs i old mid new li a b = record { count = b.count ∙ a.cou
 pub covered_all : (G : Graph) (body xs : List ℕ) (i : ℕ) (old new : List (List ℕ)) → length xs ≤ i → IsCovered G (take i xs) body old new → IsCovered G xs body old new
 covered_all G body xs i old new l c = subst (λ (ys : List ℕ). IsCovered G ys body old new) (take_all i xs l) c
 
-pub apart_none : (G : Graph) (rows : List (List ℕ)) → AreRowsOf G (IsReturn G) rows → AreRowsOf G (IsApart G 0) rows
+pub apart_none : (G : Graph) (rows : List (List ℕ)) → AreRowsOf G (IsReturn G) rows → AreRowsOf G (IsLeftOver G 0) rows
 apart_none G rows r = record { count = r.count; each = λ g l. record { each = λ i c. let p = (r.each g l).each i c in (p.0, record { is = p.1; apart = λ k m. absurd (omega arith) }); every = λ i li a. (r.each g l).every i li a.is } }
 
-pub apart_more : (G : Graph) (done : ℕ) (body : List ℕ) (old new : List (List ℕ)) → IsListOf (InBody G (at G done)) body → AreRowsOf G (IsApart G done) old → IsCovered G body body old new → AreRowsOf G (IsApart G (done + 1)) new
+pub apart_more : (G : Graph) (done : ℕ) (body : List ℕ) (old new : List (List ℕ)) → IsListOf (InBody G (at G done)) body → AreRowsOf G (IsLeftOver G done) old → IsCovered G body body old new → AreRowsOf G (IsLeftOver G (done + 1)) new
 apart_more G done body old new is r c = record { count = c.count ∙ r.count; each = λ g l. record { each = each g l; every = every g l } }
   where
-    each : (g : ℕ) → g < count_of G → (i : ℕ) → Contains (in_row new g) i → (i < count_of G) × IsApart G (done + 1) (at G g) (at G i)
+    each : (g : ℕ) → g < count_of G → (i : ℕ) → Contains (in_row new g) i → (i < count_of G) × IsLeftOver G (done + 1) (at G g) (at G i)
     each g l i m =
         let p = (c.each g i l).0 m in
         let q = (r.each g l).each i p.0 in
@@ -132,13 +132,13 @@ apart_more G done body old new is r c = record { count = c.count ∙ r.count; ea
             let e : done ≡ k = omega arith in
             subst (λ (j : ℕ). InBody G (at G j) (at G g) → ¬ InBody G (at G j) (at G i)) e (λ a b. f (is.every (at G g) a) (is.every (at G i) b))
 
-    every : (g : ℕ) → g < count_of G → (i : ℕ) → i < count_of G → IsApart G (done + 1) (at G g) (at G i) → Contains (in_row new g) i
+    every : (g : ℕ) → g < count_of G → (i : ℕ) → i < count_of G → IsLeftOver G (done + 1) (at G g) (at G i) → Contains (in_row new g) i
     every g l i li a = (c.each g i l).1 ((r.each g l).every i li (record { is = a.is; apart = λ k lk. a.apart k (omega arith) }), λ m n. a.apart done (omega arith) (is.each (at G g) m) (is.each (at G i) n))
 
-pub apart_all : (G : Graph) (done : ℕ) (rows : List (List ℕ)) → count_of G ≤ done → AreRowsOf G (IsApart G done) rows → AreRowsOf G (IsListed G) rows
+pub apart_all : (G : Graph) (done : ℕ) (rows : List (List ℕ)) → count_of G ≤ done → AreRowsOf G (IsLeftOver G done) rows → AreRowsOf G (IsListed G) rows
 apart_all G done rows le r = record { count = r.count; each = λ g l. record { each = λ i c. let p = (r.each g l).each i c in (p.0, listed (at G g) (at G i) p.1); every = λ i li x. (r.each g l).every i li (record { is = record { edge = x.edge; back = x.back; returns = x.returns; no_loop = x.no_loop }; apart = λ k lk. x.apart (at G k) }) } }
   where
-    listed : (g u : ℕ) → IsApart G done g u → IsListed G g u
+    listed : (g u : ℕ) → IsLeftOver G done g u → IsListed G g u
     listed g u a = record { edge = a.is.edge; back = a.is.back; returns = a.is.returns; no_loop = a.is.no_loop; apart = apart }
       where
         apart : (h : ℕ) → InBody G h g → ¬ InBody G h u

@@ -2,7 +2,7 @@
 use Rattle.std.proofs.Common.{◌≡◌, ℕ, ◌↔◌, Bool, List, refl, sym, subst}
 use Rattle.std.specs.List.{Contains}
 use Rattle.loop_data.specs.declared.graph.Graph.{Graph}
-use Rattle.loop_shapes.specs.Paths.{Leads}
+use Rattle.loop_data.specs.Paths.{Leads}
 use Rattle.loop_shapes.specs.Edges.{IsChosen, IsEdgeFrom, IsEdgeBetween}
 use Rattle.loop_shapes.proofs.Gains.{Among}
 

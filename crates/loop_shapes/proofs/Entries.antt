@@ -4,14 +4,14 @@ use Rattle.std.specs.List.{Contains}
 use Rattle.std.specs.Bool.{⊤}
 use Rattle.std.proofs.lemmas.Bool.{cases_eq}
 use Rattle.loop_data.specs.declared.graph.Graph.{Graph}
-use Rattle.loop_shapes.specs.Paths.{Leads, Reaches, IsWord, IsWay}
-use Rattle.loop_shapes.specs.Sets.{IsListOf, IsLeast, HasAtMost}
-use Rattle.loop_shapes.specs.Bodies.{InPart, ReachesPast, IsHeader}
+use Rattle.loop_data.specs.Paths.{Leads, Reaches, IsWord, IsWay}
+use Rattle.loop_data.specs.Sets.{IsListOf, IsLeast, HasAtMost}
+use Rattle.loop_data.specs.Bodies.{InPart, ReachesPast, IsHeader}
 use Rattle.loop_shapes.specs.Gains.{HasAll}
 use Rattle.loop_shapes.specs.Edges.{IsEdgeBetween}
 use Rattle.loop_shapes.specs.Outside.{IsOutside}
 use Rattle.loop_shapes.specs.Entry.{IsLeastEdge, IsStartAmong}
-use Rattle.loop_shapes.specs.Listed.{InCore, Enters, StartsIn, IsLeastEntrance, IsLeastStart}
+use Rattle.loop_data.specs.Listed.{InCore, Enters, StartsIn, IsLeastEntrance, IsLeastStart}
 use Rattle.loop_shapes.proofs.Ways.{stop, step, backward, forward, along, wider, starts_in, ends_in}
 use Rattle.loop_shapes.proofs.Lists.{In, to_in, from_in}
 use Rattle.loop_shapes.proofs.Rows.{alone}

@@ -4,7 +4,7 @@ use Rattle.std.specs.List.{Contains}
 use Rattle.std.proofs.lemmas.Bool.{cases_lt}
 use Rattle.std.proofs.lemmas.List.{get_or_default}
 use Rattle.std.proofs.lemmas.List.Elements.{Contains-get_or}
-use Rattle.loop_shapes.specs.Sets.{IsListOf, IsLeast, HasAtMost}
+use Rattle.loop_data.specs.Sets.{IsListOf, IsLeast, HasAtMost}
 use Rattle.loop_shapes.proofs.Lists.{rises, no_longer, apart_from_increasing}
 
 -- the first member of Q in the list of P is the least number in both

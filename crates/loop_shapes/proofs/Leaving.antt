@@ -5,15 +5,15 @@ use Rattle.std.specs.Option.{MatchOption, IfSome, IfNone}
 use Rattle.std.proofs.lemmas.Bool.{cases_eq, false≢true, cases_Bool}
 use Rattle.std.proofs.lemmas.List.Elements.{Contains-get_or}
 use Rattle.loop_data.specs.declared.graph.Graph.{Graph}
-use Rattle.loop_shapes.specs.Paths.{Leads, Reaches, IsWord}
-use Rattle.loop_shapes.specs.Sets.{IsListOf}
+use Rattle.loop_data.specs.Paths.{Leads, Reaches, IsWord}
+use Rattle.loop_data.specs.Sets.{IsListOf}
 use Rattle.loop_shapes.specs.Places.{count_of, at}
-use Rattle.loop_shapes.specs.Bodies.{IsClosed, InBody, InPart, ReachesPast}
+use Rattle.loop_data.specs.Bodies.{IsClosed, InBody, InPart, ReachesPast}
 use Rattle.loop_shapes.specs.Net.{AreClosed}
 use Rattle.loop_shapes.specs.Gains.{HasAll, IsOnly}
 use Rattle.loop_shapes.specs.Edges.{IsEdgeBetween}
 use Rattle.loop_shapes.specs.Outside.{IsOutside}
-use Rattle.loop_shapes.specs.Shape.{IsOneBack, IsOneExit, IsSide, Leaves}
+use Rattle.loop_data.specs.Shape.{IsOneBack, IsOneExit, IsSide, Leaves}
 use Rattle.loop_shapes.proofs.Ways.{stop, step, backward, along, wider, starts_in, ends_in}
 use Rattle.loop_shapes.proofs.Rows.{alone}
 use Rattle.loop_shapes.proofs.Lists.{from_in}

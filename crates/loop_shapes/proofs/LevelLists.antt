@@ -5,11 +5,11 @@ use Rattle.std.proofs.lemmas.List.{map_push, take_more, take_all}
 use Rattle.std.proofs.lemmas.List.Elements.{All-push}
 use Rattle.loop_data.specs.declared.graph.Graph.{Graph}
 use Rattle.loop_data.specs.declared.shape.Level.{Level}
-use Rattle.loop_shapes.specs.Sets.{IsListOf}
-use Rattle.loop_shapes.specs.Shape.{InNest}
+use Rattle.loop_data.specs.Sets.{IsListOf}
+use Rattle.loop_data.specs.Shape.{InNest}
 use Rattle.loop_shapes.specs.Outside.{IsOutside}
-use Rattle.loop_shapes.specs.Early.{IsRound}
-use Rattle.loop_shapes.specs.Loops.{IsLevel, AreLevels, IsSoundNest}
+use Rattle.loop_data.specs.Early.{IsRound}
+use Rattle.loop_data.specs.Loops.{IsLevel, AreLevels, IsSoundNest}
 use Rattle.loop_shapes.proofs.Leasts.{most_by}
 use Rattle.loop_shapes.proofs.Shapes.{inner_by}
 

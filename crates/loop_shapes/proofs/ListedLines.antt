@@ -7,13 +7,13 @@ use Rattle.std.proofs.lemmas.List.Elements.{Contains-get_or}
 use Rattle.loop_data.specs.declared.graph.Graph.{Graph}
 use Rattle.loop_data.specs.declared.verdict.Verdict.{Verdict}
 use Rattle.loop_data.specs.declared.verdict.Verdict.TheVariants.{Limit}
-use Rattle.loop_shapes.specs.Paths.{addresses, IsInOrder}
+use Rattle.loop_data.specs.Paths.{addresses, IsInOrder}
 use Rattle.loop_shapes.specs.Places.{at}
-use Rattle.loop_shapes.specs.Sets.{IsLeast, HasAtMost}
-use Rattle.loop_shapes.specs.Bodies.{InPart}
+use Rattle.loop_data.specs.Sets.{IsLeast, HasAtMost}
+use Rattle.loop_data.specs.Bodies.{InPart}
 use Rattle.loop_shapes.specs.Net.{IsPart}
 use Rattle.loop_shapes.specs.Lines.{IsRowOf, IsLargeAmong, HasLarge}
-use Rattle.loop_shapes.specs.Listed.{IsListed, IsLine, HasVerdict, IsPastLimit}
+use Rattle.loop_data.specs.Listed.{IsListed, IsLine, HasVerdict, IsPastLimit}
 use Rattle.loop_shapes.proofs.Lists.{rises}
 use Rattle.loop_shapes.proofs.Parts.{place_of_source, contains_map}
 

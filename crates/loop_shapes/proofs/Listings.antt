@@ -8,12 +8,12 @@ use Rattle.std.proofs.lemmas.List.Elements.{All-push, All-nil, Contains-push, Co
 use Rattle.std.proofs.lemmas.List.Kept.{AllPairs-from_increasing}
 use Rattle.loop_data.specs.declared.graph.Graph.{Graph}
 use Rattle.loop_data.specs.declared.shape.LoopShape.{LoopShape}
-use Rattle.loop_shapes.specs.Paths.{addresses, IsInOrder}
+use Rattle.loop_data.specs.Paths.{addresses, IsInOrder}
 use Rattle.loop_shapes.specs.Places.{count_of, at}
-use Rattle.loop_shapes.specs.Bodies.{IsHeader}
-use Rattle.loop_shapes.specs.Listed.{IsListed}
-use Rattle.loop_shapes.specs.Loops.{IsLoop, IsListedEdge, AreLoops}
-use Rattle.loop_shapes.specs.Below.{headers_of, IsListedAt, IsUnlisted, IsBelow, AreLoopsBelow}
+use Rattle.loop_data.specs.Bodies.{IsHeader}
+use Rattle.loop_data.specs.Listed.{IsListed}
+use Rattle.loop_data.specs.Loops.{IsLoop, IsListedEdge, headers_of, AreLoops}
+use Rattle.loop_shapes.specs.Below.{IsListedAt, IsUnlisted, IsBelow, AreLoopsBelow}
 use Rattle.loop_shapes.proofs.Rows.{none_in}
 use Rattle.loop_shapes.proofs.Parts.{place_of_word}
 use Rattle.loop_shapes.proofs.Entries.{word_on_cycle}

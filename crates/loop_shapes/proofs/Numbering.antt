@@ -9,9 +9,9 @@ use Rattle.std.proofs.lemmas.List.Elements.{Contains-get_or}
 use Rattle.strong_components.specs.Graph as graphs
 use Rattle.strong_components.specs.declared.graph.Successors.{Successors}
 use Rattle.loop_data.specs.declared.graph.Graph.{Graph}
-use Rattle.loop_shapes.specs.Paths.{addresses, IsInOrder, IsWord, Leads}
+use Rattle.loop_data.specs.Paths.{addresses, IsInOrder, IsWord, Leads, LeadsFar}
 use Rattle.loop_shapes.specs.Places.{count_of, at}
-use Rattle.loop_shapes.specs.Numbers.{IsReached, AreNodes, AreNumbers}
+use Rattle.loop_shapes.specs.Numbers.{AreNodes, AreNumbers}
 use Rattle.loop_shapes.proofs.Ways.{stop, step, backward}
 use Rattle.loop_shapes.proofs.Rows.{same_place}
 use Rattle.loop_shapes.proofs.Parts.{place_of_source, word_at}
@@ -55,11 +55,11 @@ module _ (G : Graph) (up : IsInOrder G) (nodes : List Successors) (n : AreNodes 
   pub inside : graphs.LeadsInside nodes
   inside = record { inside = λ a b e. let l = (n.each a b e).1 in let c = n.count in omega arith }
 
-  pub reached_from : (xs : List ℕ) (a b : ℕ) → graphs.IsPath nodes xs a b → IsReached G (at G a) (at G b)
-  reached_from [] a b p = subst (λ (q : ℕ). IsReached G (at G a) (at G q)) p (stop (Leads G) (λ _. ⊤) (at G a) tt)
+  pub reached_from : (xs : List ℕ) (a b : ℕ) → graphs.IsPath nodes xs a b → LeadsFar G (at G a) (at G b)
+  reached_from [] a b p = subst (λ (q : ℕ). LeadsFar G (at G a) (at G q)) p (stop (Leads G) (λ _. ⊤) (at G a) tt)
   reached_from (x ∷ xs) a b p = step (Leads G) (λ _. ⊤) (at G a) (at G x) (at G b) tt (n.each a x p.0).2 (reached_from xs x b p.1)
 
-  pub reached_to : (a b : ℕ) → a < count_of G → b < count_of G → IsReached G (at G a) (at G b) → graphs.Reaches nodes a b
+  pub reached_to : (a b : ℕ) → a < count_of G → b < count_of G → LeadsFar G (at G a) (at G b) → graphs.Reaches nodes a b
   reached_to a b la lb r =
       let t = backward (Leads G) (λ _. ⊤) Here (at G b) (b, lb, refl, record { through = []; path = refl }) prior (at G a) r in
       subst (λ (q : ℕ). graphs.Reaches nodes q b) (same_place (addresses G) up t.0 a t.1 la t.2) t.3
@@ -73,7 +73,7 @@ module _ (G : Graph) (up : IsInOrder G) (nodes : List Successors) (n : AreNodes 
           let edge = subst (λ (q : ℕ). Leads G q (at G t.0)) (sym p.is) (subst (Leads G x) (sym t.2) lead) in
           (p.place, p.within, p.is, record { through = t.0 ∷ t.3.through; path = (n.every p.place t.0 p.within t.1 edge, t.3.path) })
 
-  pub same_number : (a b : ℕ) → a < count_of G → b < count_of G → (graphs.Reaches nodes a b × graphs.Reaches nodes b a) ↔ (IsReached G (at G a) (at G b) × IsReached G (at G b) (at G a))
+  pub same_number : (a b : ℕ) → a < count_of G → b < count_of G → (graphs.Reaches nodes a b × graphs.Reaches nodes b a) ↔ (LeadsFar G (at G a) (at G b) × LeadsFar G (at G b) (at G a))
   same_number a b la lb = (λ p. (reached_from p.0.through a b p.0.path, reached_from p.1.through b a p.1.path), λ p. (reached_to a b la lb p.0, reached_to b a lb la p.1))
 
 get_left : (xs : List Successors) (v : Successors) (i : ℕ) → i < length xs → slice_get (xs ++ v ∷ []) i ≡ slice_get xs i
@@ -147,7 +147,7 @@ nodes_all G n nodes e h = record { count = h.0 ∙ e; each = λ a b x. let p = (
 pub numbers_by : (G : Graph) → IsInOrder G → (nodes : List Successors) → AreNodes G nodes → (given : List Successors) (numbers : List ℕ) → given ≡ nodes → length numbers ≡ count_of G → ((a b : ℕ) → a < length given → b < length given → (slice_index numbers a ≡ slice_index numbers b) ↔ (graphs.Reaches given a b × graphs.Reaches given b a)) → AreNumbers G numbers
 numbers_by G up nodes n given numbers e count same = record { count = count; same = one }
   where
-    one : (a b : ℕ) → a < count_of G → b < count_of G → (slice_index numbers a ≡ slice_index numbers b) ↔ (IsReached G (at G a) (at G b) × IsReached G (at G b) (at G a))
+    one : (a b : ℕ) → a < count_of G → b < count_of G → (slice_index numbers a ≡ slice_index numbers b) ↔ (LeadsFar G (at G a) (at G b) × LeadsFar G (at G b) (at G a))
     one a b la lb =
         let c = ap length e ∙ n.count in
         let s = same a b (omega arith) (omega arith) in

@@ -6,10 +6,11 @@ use Rattle.std.proofs.lemmas.Bool.{cases_lt, false≢true}
 use Rattle.std.proofs.lemmas.List.Elements.{Contains-get_or}
 use Rattle.loop_data.specs.declared.graph.Word.{Word}
 use Rattle.loop_data.specs.declared.graph.Graph.{Graph}
-use Rattle.loop_shapes.specs.Paths.{addresses, IsInOrder, IsWord, Leads, Reaches}
-use Rattle.loop_shapes.specs.Sets.{IsApart, HasOver, HasAtMost}
+use Rattle.loop_data.specs.Paths.{addresses, IsInOrder, IsWord, Leads, Reaches}
+use Rattle.loop_data.specs.Sets.{HasAtMost}
+use Rattle.loop_shapes.specs.Sets.{AreDifferent, HasOver}
 use Rattle.loop_shapes.specs.Places.{HasSources, AreFlags, in_row, count_of, at}
-use Rattle.loop_shapes.specs.Bodies.{ReachesPast, InPart, IsClosed}
+use Rattle.loop_data.specs.Bodies.{ReachesPast, InPart, IsClosed}
 use Rattle.loop_shapes.specs.Search.{RowLeads, InPlaces, HasSearched, AreWithin}
 use Rattle.loop_shapes.specs.Net.{IsAmong, IsPart, HasPart, IsOnlyEntry}
 use Rattle.loop_shapes.proofs.Ways.{stop, step, backward, ends_in}
@@ -108,7 +109,7 @@ module _ (G : Graph) (up : IsInOrder G) (rows : List (List ℕ)) (s : HasSources
       value : (k : ℕ) → k < length o.members → get_or (map (at G) o.members) k 0 ≡ at G (get_or o.members k 0)
       value k l = get_or-map (at G) o.members k 0 0 l
 
-      apart : IsApart (map (at G) o.members)
+      apart : AreDifferent (map (at G) o.members)
       apart i j lt lj e =
           let c = count in
           let mj : j < length o.members = omega arith in

@@ -5,9 +5,9 @@ use Rattle.std.proofs.lemmas.Bool.Decides.{nat_tests}
 use Rattle.std.proofs.lemmas.List.Elements.{Contains-get_or}
 use Rattle.loop_data.specs.declared.graph.Word.{Word}
 use Rattle.loop_data.specs.declared.graph.Graph.{Graph}
-use Rattle.loop_shapes.specs.Paths.{IsInOrder, IsWord, Leads}
+use Rattle.loop_data.specs.Paths.{IsInOrder, IsWord, Leads}
 use Rattle.loop_shapes.specs.Places.{count_of, at}
-use Rattle.loop_shapes.specs.Bodies.{IsClosed, IsHeader, InBody}
+use Rattle.loop_data.specs.Bodies.{IsClosed, IsHeader, InBody}
 use Rattle.loop_shapes.specs.Net.{AreClosed}
 use Rattle.loop_shapes.proofs.Rows.{none_in, steps_at, leads_at}
 use Rattle.loop_shapes.proofs.Parts.{place_of_source, word_at}

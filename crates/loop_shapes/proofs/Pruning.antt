@@ -6,11 +6,11 @@ use Rattle.std.proofs.lemmas.Bool.Decides.{nat_tests}
 use Rattle.std.proofs.lemmas.List.{get_or_append_left, get_or_push, length_push, get_or_default, take-append-drop, drop_more, take-append-le, take_all}
 use Rattle.std.proofs.lemmas.List.Elements.{Contains-push, Contains-append_left, Contains-append_right, Contains-append_cases, Contains-get_or}
 use Rattle.loop_data.specs.declared.graph.Graph.{Graph}
-use Rattle.loop_shapes.specs.Paths.{Leads, Reaches}
-use Rattle.loop_shapes.specs.Sets.{IsListOf}
-use Rattle.loop_shapes.specs.Bodies.{IsClosed, InBody}
+use Rattle.loop_data.specs.Paths.{Leads, Reaches}
+use Rattle.loop_data.specs.Sets.{IsListOf}
+use Rattle.loop_data.specs.Bodies.{IsClosed, InBody}
 use Rattle.loop_shapes.specs.Cycles.{IsOpenStep, LeadsOn, IsPruned}
-use Rattle.loop_shapes.specs.Shape.{IsForward, IsOnCycle}
+use Rattle.loop_data.specs.Shape.{IsForward, IsOnCycle}
 use Rattle.loop_shapes.proofs.Ways.{stop, further, ends_in}
 use Rattle.loop_shapes.proofs.Lists.{In, to_in, from_in, Apart, pigeons}
 use Rattle.loop_shapes.proofs.Rows.{none_in, contains_more}
@@ -81,7 +81,7 @@ pruned_start G body left e = subst (IsPruned G body) (sym e) (record { gone = []
 rotated : (R : ℕ → ℕ → Type 0) (P : ℕ → Type 0) (x : ℕ) (c : IsOnCycle R P x) → IsOnCycle R P c.next
 rotated R P x c = by c.rest.words c.rest.way
   where
-    by : (ws : List ℕ) → Rattle.loop_shapes.specs.Paths.IsWay R P ws c.next x → IsOnCycle R P c.next
+    by : (ws : List ℕ) → Rattle.loop_data.specs.Paths.IsWay R P ws c.next x → IsOnCycle R P c.next
     by [] w = subst (IsOnCycle R P) (sym w.1) c
     by (z ∷ zs) w =
         let end : Reaches R P z x = record { words = zs; way = w.2 } in

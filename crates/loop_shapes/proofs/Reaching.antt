@@ -5,8 +5,8 @@ use Rattle.std.proofs.lemmas.Bool.{cases_lt}
 use Rattle.std.proofs.lemmas.List.{get_or_append_left, get_or_push, length_push, get_or_default}
 use Rattle.std.proofs.lemmas.List.Elements.{Contains-push, Contains-push_cases, Contains-get_or}
 use Rattle.loop_data.specs.declared.graph.Graph.{Graph}
-use Rattle.loop_shapes.specs.Paths.{Leads, Reaches}
-use Rattle.loop_shapes.specs.Sets.{IsApart}
+use Rattle.loop_data.specs.Paths.{Leads, Reaches}
+use Rattle.loop_shapes.specs.Sets.{AreDifferent}
 use Rattle.loop_shapes.specs.Gains.{HasAll}
 use Rattle.loop_shapes.specs.Reach.{IsNew, Extended}
 use Rattle.loop_shapes.proofs.Ways.{stop, further, forward, starts_in, ends_in}
@@ -14,7 +14,7 @@ use Rattle.loop_shapes.proofs.Lists.{no_longer, apart_from_places, from_in}
 use Rattle.loop_shapes.proofs.Rows.{none_in, alone, contains_more}
 
 -- a number that is not there yet stands at the end
-pub apart_push : (xs : List ℕ) (y : ℕ) → (Contains xs y → ⊥) → IsApart xs → IsApart (xs ++ y ∷ [])
+pub apart_push : (xs : List ℕ) (y : ℕ) → (Contains xs y → ⊥) → AreDifferent xs → AreDifferent (xs ++ y ∷ [])
 apart_push xs y absent a i j lt lj e = by (cases_lt j (length xs))
   where
     left : (k : ℕ) → k < length xs → get_or (xs ++ y ∷ []) k 0 ≡ get_or xs k 0
@@ -64,18 +64,18 @@ extended_more set ys i old mid new l a b =
 
 -- what holds of a search that has gone through the addresses before next
 pub record Reaching (G : Graph) (set : List ℕ) (start next : ℕ) (reached : List ℕ) : Type 0 where
-  pub apart : IsApart reached
+  pub apart : AreDifferent reached
   pub to : next ≤ length reached
   pub bound : length reached ≤ length set
   pub sound : (x : ℕ) → Contains reached x → Reaches (Leads G) (Contains set) start x
   pub start_in : Contains set start → Contains reached start
   pub done : (k : ℕ) → k < next → (y : ℕ) → Leads G (get_or reached k 0) y → Contains set y → Contains reached y
 
-bounded : (G : Graph) (set : List ℕ) (start : ℕ) (reached : List ℕ) → IsApart reached → ((x : ℕ) → Contains reached x → Contains set x) → length reached ≤ length set
+bounded : (G : Graph) (set : List ℕ) (start : ℕ) (reached : List ℕ) → AreDifferent reached → ((x : ℕ) → Contains reached x → Contains set x) → length reached ≤ length set
 bounded G set start reached a f = no_longer reached set (apart_from_places reached a) f
 
 pub reaching_started : (G : Graph) (set : List ℕ) (start : ℕ) (old new : List ℕ) → old ≡ [] → Extended set (start ∷ []) old new → Reaching G set start 0 new
-reaching_started G set start old new e x = record { apart = x.apart (subst IsApart (sym e) (λ i j lt lj. absurd (omega arith))); to = omega arith; bound = bounded G set start new (x.apart (subst IsApart (sym e) (λ i j lt lj. absurd (omega arith)))) inside; sound = λ y c. subst (Reaches (Leads G) (Contains set) start) (is y c) (stop (Leads G) (Contains set) start (subst (Contains set) (sym (is y c)) (inside y c))); start_in = λ c. x.every start (record { inside = c; among = from_in (start ∷ []) start (inl refl) }); done = λ k l. absurd (omega arith) }
+reaching_started G set start old new e x = record { apart = x.apart (subst AreDifferent (sym e) (λ i j lt lj. absurd (omega arith))); to = omega arith; bound = bounded G set start new (x.apart (subst AreDifferent (sym e) (λ i j lt lj. absurd (omega arith)))) inside; sound = λ y c. subst (Reaches (Leads G) (Contains set) start) (is y c) (stop (Leads G) (Contains set) start (subst (Contains set) (sym (is y c)) (inside y c))); start_in = λ c. x.every start (record { inside = c; among = from_in (start ∷ []) start (inl refl) }); done = λ k l. absurd (omega arith) }
   where
     by : (y : ℕ) → Contains old y ⊎ IsNew set (start ∷ []) y → IsNew set (start ∷ []) y
     by y (inl c) = none_in y (subst (λ (xs : List ℕ). Contains xs y) e c)

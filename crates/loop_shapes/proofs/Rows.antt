@@ -11,7 +11,7 @@ use Rattle.std.specs.declared.alloc.Global.{Global}
 use Rattle.loop_shapes.specs.Rows.{row, items_of}
 use Rattle.loop_data.specs.declared.graph.Word.{Word}
 use Rattle.loop_data.specs.declared.graph.Graph.{Graph}
-use Rattle.loop_shapes.specs.Paths.{addresses, IsInOrder, Leads}
+use Rattle.loop_data.specs.Paths.{addresses, IsInOrder, Leads}
 use Rattle.loop_shapes.specs.Places.{Added, HasSources, AreFlags, Marked, in_row, count_of, at}
 use Rattle.loop_shapes.proofs.Lists.{to_in, from_in, In}
 

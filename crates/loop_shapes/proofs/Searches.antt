@@ -4,8 +4,8 @@ use Rattle.std.specs.List.{Contains}
 use Rattle.std.proofs.lemmas.Bool.{cases_eq, cases_lt, false≢true}
 use Rattle.std.proofs.lemmas.List.{get_or_append_left, get_or_push, length_push, get_or_default, take_more, get_or-take, length-take-le}
 use Rattle.std.proofs.lemmas.List.Elements.{Contains-push_cases, Contains-push, Contains-append_left, Contains-get_or}
-use Rattle.loop_shapes.specs.Paths.{Reaches}
-use Rattle.loop_shapes.specs.Sets.{IsApart, HasOver}
+use Rattle.loop_data.specs.Paths.{Reaches}
+use Rattle.loop_shapes.specs.Sets.{AreDifferent, HasOver}
 use Rattle.loop_shapes.specs.Places.{in_row}
 use Rattle.loop_shapes.specs.Search.{IsIndexed, Grown, HasRoom, HasNoRoom, HasTried, RowLeads, InPlaces, ArePlaces}
 use Rattle.loop_shapes.proofs.Ways.{stop, step, backward}
@@ -16,7 +16,7 @@ use Rattle.loop_shapes.proofs.Rows.{alone}
 slot_of : (found slots : List ℕ) → IsIndexed found slots → (i j : ℕ) → i < length found → j < length found → get_or found i 0 ≡ get_or found j 0 → i ≡ j
 slot_of found slots x i j li lj e = sym (x.slot i li) ∙ ap (λ q. get_or slots q 0) e ∙ x.slot j lj
 
-pub apart_from_indexed : (found slots : List ℕ) → IsIndexed found slots → IsApart found
+pub apart_from_indexed : (found slots : List ℕ) → IsIndexed found slots → AreDifferent found
 apart_from_indexed found slots x i j lt lj e = let same = slot_of found slots x i j (omega arith) lj e in omega arith
 
 pub kept : (old xs new : List ℕ) → Grown old xs new → (y : ℕ) → Contains old y → Contains new y
@@ -191,7 +191,7 @@ module _ (rows : List (List ℕ)) (h u next : ℕ) (found slots : List ℕ) (s :
       by x (inl c) = next_sound x (a.full.each x c)
       by x (inr e) = next_sound x (inr (subst (Contains (in_row rows (get_or found next 0))) e a.full.among))
 
-      apart : IsApart (new ++ a.full.extra ∷ [])
+      apart : AreDifferent (new ++ a.full.extra ∷ [])
       apart i j lt lj e = at (cases_lt j (length new))
         where
           left : (k : ℕ) → k < length new → get_or (new ++ a.full.extra ∷ []) k 0 ≡ get_or new k 0

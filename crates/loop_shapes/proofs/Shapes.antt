@@ -2,9 +2,9 @@
 use Rattle.std.proofs.Common.{◌≡◌, ℕ, inl, List, [], ◌∷◌, sym, subst}
 use Rattle.std.specs.List.{Contains}
 use Rattle.loop_data.specs.declared.graph.Graph.{Graph}
-use Rattle.loop_shapes.specs.Sets.{IsListOf}
+use Rattle.loop_data.specs.Sets.{IsListOf}
 use Rattle.loop_shapes.specs.Outside.{IsOutside}
-use Rattle.loop_shapes.specs.Shape.{IsInner, InNest, IsOneBack, IsOneExit, IsExitBranch, HasOwnShape, IsShaped}
+use Rattle.loop_data.specs.Shape.{IsInner, InNest, IsOneBack, IsOneExit, IsExitBranch, HasOwnShape, IsShaped}
 use Rattle.loop_shapes.proofs.Lists.{from_in}
 use Rattle.loop_shapes.proofs.Rows.{alone}
 

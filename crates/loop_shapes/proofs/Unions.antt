@@ -4,10 +4,10 @@ use Rattle.std.specs.List.{Contains}
 use Rattle.std.proofs.lemmas.List.{length-map, get_or-map, take_all}
 use Rattle.std.proofs.lemmas.List.Elements.{Contains-get_or, Contains-append_cases, Contains-append_left, Contains-append_right}
 use Rattle.loop_data.specs.declared.graph.Graph.{Graph}
-use Rattle.loop_shapes.specs.Sets.{IsListOf}
+use Rattle.loop_data.specs.Sets.{IsListOf}
 use Rattle.loop_shapes.specs.Places.{at}
 use Rattle.loop_shapes.specs.Gains.{HasAll}
-use Rattle.loop_shapes.specs.Bodies.{IsClosed, InPart, InBody}
+use Rattle.loop_data.specs.Bodies.{IsClosed, InPart, InBody}
 use Rattle.loop_shapes.specs.Net.{IsPart, AreClosed, IsPartOf, IsUnion, HasMore}
 use Rattle.loop_shapes.proofs.Rows.{none_in, contains_more}
 use Rattle.loop_shapes.proofs.Parts.{contains_map, place_of_source}

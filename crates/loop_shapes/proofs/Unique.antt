@@ -6,12 +6,12 @@ use Rattle.loop_data.specs.declared.graph.Graph.{Graph}
 use Rattle.loop_data.specs.declared.shape.Level.{Level}
 use Rattle.loop_data.specs.declared.shape.LoopShape.{LoopShape}
 use Rattle.loop_data.specs.declared.verdict.Verdict.{Verdict}
-use Rattle.loop_shapes.specs.Sets.{IsListOf, HasCount}
-use Rattle.loop_shapes.specs.Bodies.{IsHeader, InBody}
-use Rattle.loop_shapes.specs.Shape.{IsInner, HasOwnShape}
-use Rattle.loop_shapes.specs.Listed.{IsLine}
-use Rattle.loop_shapes.specs.Early.{IsEarly, IsRound}
-use Rattle.loop_shapes.specs.Loops.{IsLevel, AreLevels, HasLevels, IsLoop, IsListedEdge, AreLoops}
+use Rattle.loop_data.specs.Sets.{IsListOf, HasCount}
+use Rattle.loop_data.specs.Bodies.{IsHeader, InBody}
+use Rattle.loop_data.specs.Shape.{IsInner, HasOwnShape}
+use Rattle.loop_data.specs.Listed.{IsLine}
+use Rattle.loop_data.specs.Early.{IsEarly, IsRound}
+use Rattle.loop_data.specs.Loops.{IsLevel, AreLevels, HasLevels, IsLoop, IsListedEdge, headers_of, AreLoops}
 use Rattle.loop_shapes.proofs.UniqueLists.{in_tail, same_members, same_list, same_count}
 use Rattle.loop_shapes.proofs.UniqueVerdicts.{same_early, same_line, line_edge}
 
@@ -77,9 +77,6 @@ same_shape G s t (inl p) (inl q) e = same_loop G s t p q e
 same_shape G s t (inl p) (inr q) e = absurd (no_loop G t q (subst (IsHeader G) e p.header))
 same_shape G s t (inr p) (inl q) e = absurd (no_loop G s p (subst (IsHeader G) (sym e) q.header))
 same_shape G s t (inr p) (inr q) e = same_edge G s t p q e
-
-abbrev headers_of : List LoopShape → List ℕ
-headers_of xs = map (λ (s : LoopShape). s.header) xs
 
 -- an address that one list of a graph names is named by each other
 named : (G : Graph) (xs ys : List LoopShape) → All (IsEither G) xs → AreLoops G ys → (h : ℕ) → Contains (headers_of xs) h → Contains (headers_of ys) h

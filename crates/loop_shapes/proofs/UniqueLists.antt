@@ -4,7 +4,7 @@ use Rattle.std.specs.List.{AllPairs, Contains}
 use Rattle.std.specs.List.Sorted.{IsStrictlyIncreasing}
 use Rattle.std.proofs.lemmas.List.Elements.{Contains-append_right, Contains-get_or}
 use Rattle.std.proofs.lemmas.List.Kept.{AllPairs-from_increasing}
-use Rattle.loop_shapes.specs.Sets.{HasCount, IsLeast, IsListOf}
+use Rattle.loop_data.specs.Sets.{HasCount, IsLeast, IsListOf}
 
 -- each number is below all later ones
 abbrev Rises : List ℕ → Type 0

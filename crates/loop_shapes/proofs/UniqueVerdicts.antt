@@ -3,11 +3,11 @@ use Rattle.std.proofs.Common.{◌≡◌, ℕ, ◌<◌, ◌≤◌, ◌⊎◌, inl
 use Rattle.loop_data.specs.declared.graph.Graph.{Graph}
 use Rattle.loop_data.specs.declared.verdict.Verdict.{Verdict}
 use Rattle.loop_data.specs.declared.verdict.Verdict.TheVariants.{MultiEntry, Limit, Call, System, Indirect, Unsupported, Shape}
-use Rattle.loop_shapes.specs.declared.kind.Kind.TheVariants.{Calls, Asks, JumpsAnywhere, IsNothing}
-use Rattle.loop_shapes.specs.Sets.{HasAtMost, IsLeast}
-use Rattle.loop_shapes.specs.Bodies.{InPart}
-use Rattle.loop_shapes.specs.Early.{IsShort, Does, IsMisshapen, IsSmallNest, IsPlain, IsEarly}
-use Rattle.loop_shapes.specs.Listed.{IsListed, StartsIn, IsLeastEntrance, IsLeastStart, HasVerdict, IsLine}
+use Rattle.loop_data.specs.Instructions.{CallsFunction, AsksSystem, JumpsIndirectly, IsNoInstruction}
+use Rattle.loop_data.specs.Sets.{HasAtMost, IsLeast}
+use Rattle.loop_data.specs.Bodies.{InPart}
+use Rattle.loop_data.specs.Early.{IsShort, IsBodyWord, IsMisshapen, IsSmallNest, IsPlain, IsEarly}
+use Rattle.loop_data.specs.Listed.{IsListed, StartsIn, IsLeastEntrance, IsLeastStart, HasVerdict, IsLine}
 use Rattle.loop_shapes.proofs.UniqueLists.{same_least}
 
 -- at most one value has this
@@ -42,16 +42,16 @@ abbrev FromShape : Graph → ℕ → Option Verdict → Type 0
 FromShape G h = First (Option Verdict) (IsMisshapen G h) (λ at. Some (Shape at)) (FromSize G h)
 
 abbrev FromUnsupported : Graph → ℕ → Option Verdict → Type 0
-FromUnsupported G h = First (Option Verdict) (Does G h IsNothing) (λ at. Some (Unsupported at)) (FromShape G h)
+FromUnsupported G h = First (Option Verdict) (IsBodyWord G h IsNoInstruction) (λ at. Some (Unsupported at)) (FromShape G h)
 
 abbrev FromIndirect : Graph → ℕ → Option Verdict → Type 0
-FromIndirect G h = First (Option Verdict) (Does G h JumpsAnywhere) (λ at. Some (Indirect at)) (FromUnsupported G h)
+FromIndirect G h = First (Option Verdict) (IsBodyWord G h JumpsIndirectly) (λ at. Some (Indirect at)) (FromUnsupported G h)
 
 abbrev FromSystem : Graph → ℕ → Option Verdict → Type 0
-FromSystem G h = First (Option Verdict) (Does G h Asks) (λ at. Some (System at)) (FromIndirect G h)
+FromSystem G h = First (Option Verdict) (IsBodyWord G h AsksSystem) (λ at. Some (System at)) (FromIndirect G h)
 
 abbrev FromCall : Graph → ℕ → Option Verdict → Type 0
-FromCall G h = First (Option Verdict) (Does G h Calls) (λ at. Some (Call at)) (FromSystem G h)
+FromCall G h = First (Option Verdict) (IsBodyWord G h CallsFunction) (λ at. Some (Call at)) (FromSystem G h)
 
 abbrev Decided : Graph → ℕ → Option Verdict → Type 0
 Decided G h = Unless (Option Verdict) (IsShort G h) (Some (Limit h)) (FromCall G h)
@@ -63,16 +63,16 @@ one_from_shape : (G : Graph) (h : ℕ) → IsOne (Option Verdict) (FromShape G h
 one_from_shape G h = one_first (Option Verdict) (IsMisshapen G h) (λ at. Some (Shape at)) (FromSize G h) (one_from_size G h)
 
 one_from_unsupported : (G : Graph) (h : ℕ) → IsOne (Option Verdict) (FromUnsupported G h)
-one_from_unsupported G h = one_first (Option Verdict) (Does G h IsNothing) (λ at. Some (Unsupported at)) (FromShape G h) (one_from_shape G h)
+one_from_unsupported G h = one_first (Option Verdict) (IsBodyWord G h IsNoInstruction) (λ at. Some (Unsupported at)) (FromShape G h) (one_from_shape G h)
 
 one_from_indirect : (G : Graph) (h : ℕ) → IsOne (Option Verdict) (FromIndirect G h)
-one_from_indirect G h = one_first (Option Verdict) (Does G h JumpsAnywhere) (λ at. Some (Indirect at)) (FromUnsupported G h) (one_from_unsupported G h)
+one_from_indirect G h = one_first (Option Verdict) (IsBodyWord G h JumpsIndirectly) (λ at. Some (Indirect at)) (FromUnsupported G h) (one_from_unsupported G h)
 
 one_from_system : (G : Graph) (h : ℕ) → IsOne (Option Verdict) (FromSystem G h)
-one_from_system G h = one_first (Option Verdict) (Does G h Asks) (λ at. Some (System at)) (FromIndirect G h) (one_from_indirect G h)
+one_from_system G h = one_first (Option Verdict) (IsBodyWord G h AsksSystem) (λ at. Some (System at)) (FromIndirect G h) (one_from_indirect G h)
 
 one_from_call : (G : Graph) (h : ℕ) → IsOne (Option Verdict) (FromCall G h)
-one_from_call G h = one_first (Option Verdict) (Does G h Calls) (λ at. Some (Call at)) (FromSystem G h) (one_from_system G h)
+one_from_call G h = one_first (Option Verdict) (IsBodyWord G h CallsFunction) (λ at. Some (Call at)) (FromSystem G h) (one_from_system G h)
 
 one_decided : (G : Graph) (h : ℕ) → IsOne (Option Verdict) (Decided G h)
 one_decided G h = one_unless (Option Verdict) (IsShort G h) (Some (Limit h)) (FromCall G h) (one_from_call G h)

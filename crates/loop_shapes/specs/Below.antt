@@ -1,17 +1,13 @@
 -- The listed loops at the words before a place.
-use Rattle.std.specs.Prelude.{ℕ, ◌≡◌, ◌<◌, ◌⊎◌, Option, MatchOption, List, map}
+use Rattle.std.specs.Prelude.{ℕ, ◌≡◌, ◌<◌, ◌⊎◌, Option, MatchOption, List}
 use Rattle.std.specs.List.{All, Contains}
 use Rattle.std.specs.List.Sorted.{IsStrictlyIncreasing}
 use Rattle.loop_data.specs.declared.graph.Graph.{Graph}
 use Rattle.loop_data.specs.declared.shape.LoopShape.{LoopShape}
-use Rattle.loop_shapes.specs.Bodies.{IsHeader}
-use Rattle.loop_shapes.specs.Listed.{IsListed}
-use Rattle.loop_shapes.specs.Loops.{IsLoop, IsListedEdge}
+use Rattle.loop_data.specs.Bodies.{IsHeader}
+use Rattle.loop_data.specs.Listed.{IsListed}
+use Rattle.loop_data.specs.Loops.{IsLoop, IsListedEdge, headers_of}
 use Rattle.loop_shapes.specs.Places.{count_of, at}
-
--- the headers of loops
-abbrev pub headers_of : List LoopShape → List ℕ
-headers_of shapes = map (λ (s : LoopShape). s.header) shapes
 
 -- the listed loop at an address
 pub record IsListedAt (G : Graph) (x : ℕ) (s : LoopShape) : Type 0 where

@@ -11,7 +11,7 @@ use Rattle.loop_shapes.specs.declared.kind.Class.{Class}
 use Rattle.loop_shapes.specs.declared.kind.Class.TheVariants.{Jump, RegisterJump, Ask, Nothing, Fork, UpperPc, Other}
 use Rattle.loop_shapes.specs.declared.kind.Kind.{Kind}
 use Rattle.loop_shapes.specs.declared.kind.Kind.TheVariants.{Calls, Asks, JumpsAnywhere, IsNothing, Branches}
-use Rattle.loop_shapes.specs.Instructions.{IsPaired}
+use Rattle.loop_data.specs.Instructions.{IsPaired}
 
 -- the class of an instruction
 abbrev pub class_of : Option Instr → Class

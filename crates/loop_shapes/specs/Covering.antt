@@ -2,20 +2,19 @@
 use Rattle.std.specs.Prelude.{ℕ, ◌≡◌, ◌<◌, ◌≤◌, ◌↔◌, List, length}
 use Rattle.std.specs.List.{Contains}
 use Rattle.loop_data.specs.declared.graph.Graph.{Graph}
-use Rattle.loop_shapes.specs.Paths.{Leads}
-use Rattle.loop_shapes.specs.Bodies.{IsHeader, InBody}
-use Rattle.loop_shapes.specs.Numbers.{IsReached}
+use Rattle.loop_data.specs.Paths.{Leads, LeadsFar}
+use Rattle.loop_data.specs.Bodies.{IsHeader, InBody}
 use Rattle.loop_shapes.specs.Places.{count_of, at, in_row}
 
 -- an edge from u back to g, or to itself, is on a cycle, and no loop stands at g
 pub record IsReturn (G : Graph) (g u : ℕ) : Type 0 where
   pub edge : Leads G u g
   pub back : g ≤ u
-  pub returns : IsReached G g u
+  pub returns : LeadsFar G g u
   pub no_loop : ¬ IsHeader G g
 
 -- such an edge that no loop accounts for whose header stands before a place
-pub record IsApart (G : Graph) (done g u : ℕ) : Type 0 where
+pub record IsLeftOver (G : Graph) (done g u : ℕ) : Type 0 where
   pub is : IsReturn G g u
   pub apart : (k : ℕ) → k < done → InBody G (at G k) g → ¬ InBody G (at G k) u
 

@@ -2,8 +2,8 @@
 use Rattle.std.specs.Prelude.{ℕ, ◌<◌, ◌⊎◌, List, length, slice_index, take}
 use Rattle.std.specs.List.{Contains}
 use Rattle.loop_data.specs.declared.graph.Graph.{Graph}
-use Rattle.loop_shapes.specs.Paths.{Leads}
-use Rattle.loop_shapes.specs.Bodies.{IsClosed}
+use Rattle.loop_data.specs.Paths.{Leads}
+use Rattle.loop_data.specs.Bodies.{IsClosed}
 
 -- an edge that is not closed
 pub record IsOpenStep (G : Graph) (x y : ℕ) : Type 0 where

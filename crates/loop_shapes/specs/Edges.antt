@@ -2,7 +2,7 @@
 use Rattle.std.specs.Prelude.{ℕ, ◌≡◌, Bool, MatchBool, List}
 use Rattle.std.specs.List.{Contains}
 use Rattle.loop_data.specs.declared.graph.Graph.{Graph}
-use Rattle.loop_shapes.specs.Paths.{Leads}
+use Rattle.loop_data.specs.Paths.{Leads}
 
 -- an address among others, or not among them
 abbrev pub IsChosen : Bool → List ℕ → ℕ → Type 0

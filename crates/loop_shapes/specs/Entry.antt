@@ -2,7 +2,7 @@
 use Rattle.std.specs.Prelude.{ℕ, ◌≡◌, ◌<◌, ◌≤◌, ◌⊎◌, List}
 use Rattle.std.specs.List.{Contains}
 use Rattle.loop_data.specs.declared.graph.Graph.{Graph}
-use Rattle.loop_shapes.specs.Paths.{IsWord}
+use Rattle.loop_data.specs.Paths.{IsWord}
 
 -- an edge is at or before another, by its source and then by its target
 abbrev pub IsBefore : ℕ × ℕ → ℕ × ℕ → Type 0

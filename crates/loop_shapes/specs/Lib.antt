@@ -1,14 +1,8 @@
-pub mod Paths
 pub mod Rows
 pub mod Places
 pub mod Sets
 pub mod Search
-pub mod Bodies
-pub mod Instructions
-pub mod Shape
-pub mod Listed
-pub mod Early
-pub mod Loops
+pub mod Kinds
 pub mod Net
 pub mod Class
 pub mod Program

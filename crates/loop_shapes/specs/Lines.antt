@@ -2,9 +2,9 @@
 use Rattle.std.specs.Prelude.{ℕ, ◌≡◌, ◌<◌, Bool, MatchBool, List, length}
 use Rattle.std.specs.List.{Contains}
 use Rattle.loop_data.specs.declared.graph.Graph.{Graph}
-use Rattle.loop_shapes.specs.Bodies.{InPart}
+use Rattle.loop_data.specs.Bodies.{InPart}
 use Rattle.loop_shapes.specs.Places.{count_of, at, in_row}
-use Rattle.loop_shapes.specs.Sets.{HasAtMost}
+use Rattle.loop_data.specs.Sets.{HasAtMost}
 
 -- the places of the words in a relation to the word at a place
 pub record IsRowOf (G : Graph) (R : ℕ → ℕ → Type 0) (g : ℕ) (row : List ℕ) : Type 0 where

@@ -3,11 +3,11 @@ use Rattle.std.specs.Prelude.{ℕ, ◌≡◌, ◌<◌, ◌≤◌, ◌⊎◌, Mat
 use Rattle.std.specs.List.{Contains}
 use Rattle.loop_data.specs.declared.graph.Graph.{Graph}
 use Rattle.loop_shapes.specs.declared.net.Net.{Net}
-use Rattle.loop_shapes.specs.Paths.{addresses, IsInOrder}
+use Rattle.loop_data.specs.Paths.{addresses, IsInOrder}
 use Rattle.loop_shapes.specs.Places.{HasSources, AreFlags, count_of, at, in_row}
 use Rattle.loop_shapes.specs.Rows.{rows}
-use Rattle.loop_shapes.specs.Bodies.{InPart, IsClosed}
-use Rattle.loop_shapes.specs.Sets.{HasAtMost}
+use Rattle.loop_data.specs.Bodies.{InPart, IsClosed}
+use Rattle.loop_data.specs.Sets.{HasAtMost}
 
 -- the graph of the net
 abbrev pub graph_of : Net → Graph

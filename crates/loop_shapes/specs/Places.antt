@@ -2,7 +2,7 @@
 use Rattle.std.specs.Prelude.{ℕ, ◌≡◌, ◌<◌, ◌⊎◌, ◌↔◌, Bool, true, false, List, [], length, slice_index, slice_index_or}
 use Rattle.std.specs.List.{Contains}
 use Rattle.loop_data.specs.declared.graph.Graph.{Graph}
-use Rattle.loop_shapes.specs.Paths.{addresses, Leads}
+use Rattle.loop_data.specs.Paths.{addresses, Leads}
 
 -- how many reached words there are
 abbrev pub count_of : Graph → ℕ

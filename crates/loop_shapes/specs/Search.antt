@@ -1,7 +1,7 @@
 -- A search backwards along step edges, over places.
 use Rattle.std.specs.Prelude.{ℕ, ◌≡◌, ◌≢◌, ◌<◌, ◌≤◌, ◌+◌, ◌⊎◌, Bool, MatchBool, List, length, slice_index}
 use Rattle.std.specs.List.{Contains}
-use Rattle.loop_shapes.specs.Paths.{Reaches}
+use Rattle.loop_data.specs.Paths.{Reaches}
 use Rattle.loop_shapes.specs.Sets.{HasOver}
 use Rattle.loop_shapes.specs.Places.{in_row}
 

@@ -1,9 +1,9 @@
 ghost use Rattle.std.specs.Prelude.{◌≡◌, ◌<◌, ◌++◌, ℕ, IfOk, OnOk, length, map, slice_index};
 ghost use Rattle.std.specs.List.{Contains};
-ghost use Rattle.loop_shapes.specs.Bodies.{IsClosed, InBody, InPart};
+ghost use Rattle.loop_data.specs.Bodies.{IsClosed, InBody, InPart};
 ghost use Rattle.loop_shapes.specs.Net.{IsNet, AreClosed, HasMore, IsUnion, graph_of};
 ghost use Rattle.loop_shapes.specs.Places.{at, count_of};
-ghost use Rattle.loop_shapes.specs.Sets.{IsListOf};
+ghost use Rattle.loop_data.specs.Sets.{IsListOf};
 
 use crate::closed::part;
 use crate::net::Net;

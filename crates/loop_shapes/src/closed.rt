@@ -1,11 +1,11 @@
 ghost use Rattle.std.specs.Prelude.{◌≡◌, ◌<◌, ◌↔◌, ℕ, IfOk, OnOk, IsTrue, length};
 ghost use Rattle.std.specs.List.{Contains};
-ghost use Rattle.loop_shapes.specs.Bodies.{IsClosed, InBody};
+ghost use Rattle.loop_data.specs.Bodies.{IsClosed, InBody};
 ghost use Rattle.loop_shapes.specs.Net.{IsNet, IsOnlyEntry, HasPart, HasTriedEdge, AreClosed, HasClosed, graph_of};
-ghost use Rattle.loop_shapes.specs.Paths.{Leads};
+ghost use Rattle.loop_data.specs.Paths.{Leads};
 ghost use Rattle.loop_shapes.specs.Places.{at, count_of};
 ghost use Rattle.loop_shapes.specs.Rows.{rows};
-ghost use Rattle.loop_shapes.specs.Sets.{IsListOf};
+ghost use Rattle.loop_data.specs.Sets.{IsListOf};
 
 use crate::net::Net;
 use crate::places::row_at;

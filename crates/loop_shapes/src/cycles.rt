@@ -1,10 +1,10 @@
 ghost use Rattle.std.specs.Prelude.{◌≡◌, ◌↔◌, ◌<◌, ◌≤◌, ℕ, List, IfOk, IsTrue, length, vec_len};
 ghost use Rattle.std.specs.List.{Contains};
-ghost use Rattle.loop_shapes.specs.Bodies.{IsClosed, InBody};
+ghost use Rattle.loop_data.specs.Bodies.{IsClosed, InBody};
 ghost use Rattle.loop_shapes.specs.Cycles.{LeadsOn, IsPruned};
 ghost use Rattle.loop_shapes.specs.Program.{IsProgram, program_graph};
-ghost use Rattle.loop_shapes.specs.Sets.{IsListOf};
-ghost use Rattle.loop_shapes.specs.Shape.{IsForward, IsOnCycle};
+ghost use Rattle.loop_data.specs.Sets.{IsListOf};
+ghost use Rattle.loop_data.specs.Shape.{IsForward, IsOnCycle};
 
 use crate::program::{Program, has, is_closed_edge, steps_of};
 use std::alloc::{AllocError, Global};

@@ -1,9 +1,10 @@
 ghost use Rattle.std.specs.Prelude.{◌≡◌, ◌↔◌, ◌<◌, ◌≤◌, ℕ, IfOk, IfSome, IfNone, MatchOption, IsTrue, length, Some, None};
 ghost use Rattle.std.specs.List.{Contains};
-ghost use Rattle.loop_shapes.specs.Bodies.{IsHeader, InBody};
-ghost use Rattle.loop_shapes.specs.Early.{IsShort, Does, Lacks, IsPlain, IsEarly};
+ghost use Rattle.loop_data.specs.Bodies.{IsHeader, InBody};
+ghost use Rattle.loop_data.specs.Early.{IsShort, IsBodyWord, Lacks, IsPlain, IsEarly};
+ghost use Rattle.loop_shapes.specs.Kinds.{HasKind};
 ghost use Rattle.loop_shapes.specs.Net.{IsNet, graph_of};
-ghost use Rattle.loop_shapes.specs.Sets.{IsListOf, IsLeast};
+ghost use Rattle.loop_data.specs.Sets.{IsListOf, IsLeast};
 
 use crate::kind::{Kind, has_kind};
 use crate::net::Net;
@@ -13,7 +14,7 @@ use loop_data::Verdict;
 fn first_kind(net: &Net, body: &[u64], kind: Kind) -> Option<u64>
     requires { IsNet net.now }
     ensures { (h : ℕ) → IsListOf (InBody (graph_of net.now) h) body.now
-        → MatchOption result (Lacks (graph_of net.now) h kind) (IsLeast (Does (graph_of net.now) h kind)) }
+        → MatchOption result (Lacks (graph_of net.now) h (HasKind kind)) (IsLeast (IsBodyWord (graph_of net.now) h (HasKind kind))) }
 {
     for x in body {
         if has_kind(net, *x, kind) {

@@ -4,7 +4,7 @@ ghost use Rattle.std.specs.List.Sorted.{IsStrictlyIncreasing};
 ghost use Rattle.loop_shapes.specs.Edges.{IsChosen, IsEdgeFrom, IsEdgeBetween};
 ghost use Rattle.loop_shapes.specs.Gains.{Gained, HasAll, IsOnly};
 ghost use Rattle.loop_shapes.specs.Net.{IsNet, graph_of};
-ghost use Rattle.loop_shapes.specs.Paths.{Leads};
+ghost use Rattle.loop_data.specs.Paths.{Leads};
 
 use crate::net::Net;
 use crate::program::{is_among, steps_of};

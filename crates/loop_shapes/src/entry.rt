@@ -1,13 +1,13 @@
 ghost use Rattle.std.specs.Prelude.{◌≡◌, ◌≢◌, ◌↔◌, ◌<◌, ◌≤◌, ◌∷◌, [], ◌⊎◌, ℕ, IfOk, MatchOption, IsTrue, length, ⊤};
 ghost use Rattle.std.specs.List.{Contains};
 ghost use Rattle.std.specs.List.Sorted.{IsStrictlyIncreasing};
-ghost use Rattle.loop_shapes.specs.Bodies.{IsHeader, InPart};
+ghost use Rattle.loop_data.specs.Bodies.{IsHeader, InPart};
 ghost use Rattle.loop_shapes.specs.Entry.{IsBefore, IsLeastEdge, IsStart, IsStartAmong};
-ghost use Rattle.loop_shapes.specs.Listed.{HasVerdict};
+ghost use Rattle.loop_data.specs.Listed.{HasVerdict};
 ghost use Rattle.loop_shapes.specs.Net.{IsNet, graph_of};
-ghost use Rattle.loop_shapes.specs.Paths.{Leads, Reaches};
+ghost use Rattle.loop_data.specs.Paths.{Leads, Reaches};
 ghost use Rattle.loop_shapes.specs.Places.{at, count_of};
-ghost use Rattle.loop_shapes.specs.Sets.{IsListOf, IsLeast, HasAtMost};
+ghost use Rattle.loop_data.specs.Sets.{IsListOf, IsLeast, HasAtMost};
 
 use crate::body::{in_order, push_addresses};
 use crate::closed::part;

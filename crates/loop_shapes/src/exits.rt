@@ -1,12 +1,12 @@
 ghost use Rattle.std.specs.Prelude.{◌≡◌, ◌↔◌, ◌<◌, ◌∷◌, [], ℕ, IfOk, IfSome, IfNone, MatchOption, IsTrue, length};
 ghost use Rattle.std.specs.List.{Contains};
 ghost use Rattle.std.specs.List.Sorted.{IsStrictlyIncreasing};
-ghost use Rattle.loop_shapes.specs.Bodies.{IsClosed, InBody, ReachesPast};
+ghost use Rattle.loop_data.specs.Bodies.{IsClosed, InBody, ReachesPast};
 ghost use Rattle.loop_shapes.specs.Net.{IsNet, graph_of};
 ghost use Rattle.loop_shapes.specs.Places.{count_of};
 ghost use Rattle.loop_shapes.specs.Program.{IsProgram, program_graph};
-ghost use Rattle.loop_shapes.specs.Sets.{IsListOf};
-ghost use Rattle.loop_shapes.specs.Shape.{IsOneBack, IsOneExit, IsSide, IsInner};
+ghost use Rattle.loop_data.specs.Sets.{IsListOf};
+ghost use Rattle.loop_data.specs.Shape.{IsOneBack, IsOneExit, IsSide, IsInner};
 
 use crate::edges::{edges, only_edge, only_place};
 use crate::net::{Net, address_of, find};

@@ -1,8 +1,9 @@
 ghost use Rattle.std.specs.Prelude.{◌≡◌, ◌↔◌, IfSome, IfNone, IsTrue, ℕ};
 ghost use Rattle.loop_shapes.specs.Class.{HasClass, HasPairing, class_of, does_of};
-ghost use Rattle.loop_shapes.specs.Instructions.{HasKind, IsPaired};
+ghost use Rattle.loop_data.specs.Instructions.{IsPaired};
+ghost use Rattle.loop_shapes.specs.Kinds.{HasKind};
 ghost use Rattle.loop_shapes.specs.Net.{IsNet, graph_of};
-ghost use Rattle.loop_shapes.specs.Paths.{IsWord};
+ghost use Rattle.loop_data.specs.Paths.{IsWord};
 ghost use Rattle.rv64_decode.specs.Table.{decoded};
 ghost use Rattle.rv64_decode.specs.Fields.{rd_of, rs1_of};
 
@@ -146,7 +147,7 @@ fn does(kind: Kind, class: Class, paired: bool) -> bool
 /// Whether the word at an address does this.
 pub fn has_kind(net: &Net, x: u64, kind: Kind) -> bool
     requires { IsNet net.now }
-    ensures { IsTrue result ↔ HasKind (graph_of net.now) kind x }
+    ensures { IsTrue result ↔ HasKind kind (graph_of net.now) x }
 {
     match class_at(net, x) {
         Some(class) => does(kind, class, pairing(net, x, class)),

@@ -1,11 +1,11 @@
 ghost use Rattle.std.specs.Prelude.{◌≡◌, ◌<◌, ℕ, IfOk, length, [], Some, None};
 ghost use Rattle.std.specs.List.{Contains};
-ghost use Rattle.loop_shapes.specs.Bodies.{IsHeader, InBody};
-ghost use Rattle.loop_shapes.specs.Loops.{IsLevel, AreLevels, IsSoundNest, IsLoop};
+ghost use Rattle.loop_data.specs.Bodies.{IsHeader, InBody};
+ghost use Rattle.loop_data.specs.Loops.{IsLevel, AreLevels, IsSoundNest, IsLoop};
 ghost use Rattle.loop_shapes.specs.Places.{AreFlags, count_of};
 ghost use Rattle.loop_shapes.specs.Program.{IsProgram, program_graph};
-ghost use Rattle.loop_shapes.specs.Sets.{IsListOf};
-ghost use Rattle.loop_shapes.specs.Shape.{InNest, IsShaped};
+ghost use Rattle.loop_data.specs.Sets.{IsListOf};
+ghost use Rattle.loop_data.specs.Shape.{InNest, IsShaped};
 
 use crate::early::body_verdict;
 use crate::nest::{nest_verdict, round_of};

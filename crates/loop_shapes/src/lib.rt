@@ -1,5 +1,10 @@
 //! The loops of a program, recovered from its reached words: bodies, shape, nests, and the verdicts
 //! that the shape of a loop decides.
+//!
+//! The definition stands in `loop_data`, where all crates above can cite it: ways along step edges
+//! (`Paths`), bodies of loops (`Bodies`), their shape (`Shape`), the verdicts that it decides (`Early`),
+//! edges that close no loop and are listed nevertheless (`Listed`), and the list of all loops (`Loops`).
+//! `specs/` has what holds during the searches.
 #![tactic(auto)]
 
 mod body;

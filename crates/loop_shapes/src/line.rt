@@ -1,11 +1,11 @@
 ghost use Rattle.std.specs.Prelude.{◌≡◌, ◌<◌, ℕ, min, IfOk, MatchOption, length};
 ghost use Rattle.std.specs.List.{Contains};
-ghost use Rattle.loop_shapes.specs.Bodies.{InPart};
+ghost use Rattle.loop_data.specs.Bodies.{InPart};
 ghost use Rattle.loop_shapes.specs.Lines.{IsRowOf, HasLarge};
-ghost use Rattle.loop_shapes.specs.Listed.{IsListed, IsLine};
+ghost use Rattle.loop_data.specs.Listed.{IsListed, IsLine};
 ghost use Rattle.loop_shapes.specs.Net.{IsNet, graph_of};
 ghost use Rattle.loop_shapes.specs.Places.{at, count_of};
-ghost use Rattle.loop_shapes.specs.Sets.{IsLeast};
+ghost use Rattle.loop_data.specs.Sets.{IsLeast};
 
 use crate::closed::part;
 use crate::entry::{entry_of, part_list};

@@ -1,10 +1,10 @@
 ghost use Rattle.std.specs.Prelude.{◌≡◌, ◌↔◌, ◌<◌, ◌≤◌, ◌∷◌, [], ℕ, IfOk, OnOk, IsTrue, length, slice_index};
 ghost use Rattle.std.specs.List.{Contains};
 ghost use Rattle.std.specs.List.Sorted.{IsStrictlyIncreasing};
-ghost use Rattle.loop_shapes.specs.Covering.{IsReturn, IsApart, IsCovered};
+ghost use Rattle.loop_shapes.specs.Covering.{IsReturn, IsLeftOver, IsCovered};
 ghost use Rattle.loop_shapes.specs.Gains.{Gained, HasAll};
 ghost use Rattle.loop_shapes.specs.Lines.{IsRowOf, AreRowsOf};
-ghost use Rattle.loop_shapes.specs.Listed.{IsListed};
+ghost use Rattle.loop_data.specs.Listed.{IsListed};
 ghost use Rattle.loop_shapes.specs.Net.{IsNet, graph_of};
 ghost use Rattle.loop_shapes.specs.Numbers.{AreNumbers};
 ghost use Rattle.loop_shapes.specs.Places.{at, count_of};

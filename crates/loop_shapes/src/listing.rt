@@ -1,14 +1,14 @@
 ghost use Rattle.std.specs.Prelude.{◌≡◌, ◌<◌, ◌+◌, ◌^◌, ℕ, IfOk, OnOk, length};
 ghost use Rattle.loop_shapes.specs.Below.{HasShapeAt, AreLoopsBelow};
 ghost use Rattle.loop_shapes.specs.Lines.{AreRowsOf};
-ghost use Rattle.loop_shapes.specs.Listed.{IsListed};
-ghost use Rattle.loop_shapes.specs.Loops.{AreLoops};
+ghost use Rattle.loop_data.specs.Listed.{IsListed};
+ghost use Rattle.loop_data.specs.Loops.{AreLoops};
 ghost use Rattle.loop_shapes.specs.Net.{IsNet, graph_of};
-ghost use Rattle.loop_shapes.specs.Paths.{IsInOrder};
+ghost use Rattle.loop_data.specs.Paths.{IsInOrder};
 ghost use Rattle.loop_shapes.specs.Places.{AreFlags, at, count_of};
 ghost use Rattle.loop_shapes.specs.Program.{IsProgram, program_graph};
 ghost use Rattle.loop_shapes.specs.Rows.{rows};
-ghost use Rattle.loop_shapes.specs.Shape.{IsShaped};
+ghost use Rattle.loop_data.specs.Shape.{IsShaped};
 
 use crate::levels::{judged, loop_at};
 use crate::line::line_of;

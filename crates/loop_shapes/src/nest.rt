@@ -1,13 +1,13 @@
 ghost use Rattle.std.specs.Prelude.{◌≡◌, ◌≢◌, ◌↔◌, ◌<◌, ◌≤◌, ℕ, IfOk, OnOk, MatchOption, IsTrue, length};
 ghost use Rattle.std.specs.List.{Contains};
-ghost use Rattle.loop_shapes.specs.Bodies.{InBody};
-ghost use Rattle.loop_shapes.specs.Early.{IsMisshapen, IsRound, IsSmallNest, IsPlain, IsEarly};
+ghost use Rattle.loop_data.specs.Bodies.{InBody};
+ghost use Rattle.loop_data.specs.Early.{IsMisshapen, IsRound, IsSmallNest, IsPlain, IsEarly};
 ghost use Rattle.loop_shapes.specs.Gains.{Gained};
 ghost use Rattle.loop_shapes.specs.Net.{IsNet, graph_of};
 ghost use Rattle.loop_shapes.specs.Places.{AreFlags, count_of};
 ghost use Rattle.loop_shapes.specs.Program.{IsProgram, program_graph};
-ghost use Rattle.loop_shapes.specs.Sets.{IsListOf, IsLeast};
-ghost use Rattle.loop_shapes.specs.Shape.{IsShaped, HasShape, InNest};
+ghost use Rattle.loop_data.specs.Sets.{IsListOf, IsLeast};
+ghost use Rattle.loop_data.specs.Shape.{IsShaped, HasShape, InNest};
 
 use crate::body::in_order;
 use crate::net::{Net, address_of, find};

@@ -1,6 +1,6 @@
 ghost use Rattle.loop_shapes.specs.Net.{IsNet, graph_of};
-ghost use Rattle.loop_shapes.specs.Paths.{IsInOrder};
-ghost use Rattle.loop_shapes.specs.Paths.{IsWord};
+ghost use Rattle.loop_data.specs.Paths.{IsInOrder};
+ghost use Rattle.loop_data.specs.Paths.{IsWord};
 ghost use Rattle.loop_shapes.specs.Places.{at, count_of};
 ghost use Rattle.std.specs.Prelude.{◌≡◌, ◌<◌, IfOk, IfSome, IfNone};
 

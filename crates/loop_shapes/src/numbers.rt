@@ -2,7 +2,7 @@ ghost use Rattle.std.specs.Prelude.{◌≡◌, ◌↔◌, ◌<◌, ◌≤◌, �
 ghost use Rattle.std.specs.List.{Contains};
 ghost use Rattle.loop_shapes.specs.Net.{IsNet, graph_of};
 ghost use Rattle.loop_shapes.specs.Numbers.{AreNodes, AreNumbers};
-ghost use Rattle.loop_shapes.specs.Paths.{IsWord, Leads};
+ghost use Rattle.loop_data.specs.Paths.{IsWord, Leads};
 ghost use Rattle.loop_shapes.specs.Places.{at, count_of};
 ghost use Rattle.strong_components.specs.Graph.{LeadsTo};
 

@@ -1,7 +1,7 @@
 ghost use Rattle.std.specs.Prelude.{◌≡◌, ◌<◌, ◌≤◌, ◌+◌, ℕ, ◌++◌, ◌∷◌, [], length, IfOk, IfSome, IfNone, OnOk, IsTrue, vec_len, slice_index, slice_index_or, ◌↔◌, slice_set, replicate, false};
 ghost use Rattle.std.specs.List.{Contains};
 ghost use Rattle.std.specs.List.Sorted.{IsStrictlyIncreasing};
-ghost use Rattle.loop_shapes.specs.Paths.{addresses, IsInOrder};
+ghost use Rattle.loop_data.specs.Paths.{addresses, IsInOrder};
 ghost use Rattle.loop_shapes.specs.Places.{Added, HasSources, AreFlags, Marked, count_of};
 ghost use Rattle.loop_shapes.specs.Rows.{rows, row};
 

@@ -1,12 +1,12 @@
 ghost use Rattle.std.specs.Prelude.{◌≡◌, ◌↔◌, ◌<◌, ℕ, IfOk, IfSome, IfNone, IsTrue, length};
 ghost use Rattle.std.specs.List.{Contains};
 ghost use Rattle.std.specs.List.Sorted.{IsStrictlyIncreasing};
-ghost use Rattle.loop_shapes.specs.Bodies.{IsClosed, IsHeader, InBody};
+ghost use Rattle.loop_data.specs.Bodies.{IsClosed, IsHeader, InBody};
 ghost use Rattle.loop_shapes.specs.Net.{IsNet, AreClosed, graph_of};
-ghost use Rattle.loop_shapes.specs.Paths.{Leads};
+ghost use Rattle.loop_data.specs.Paths.{Leads};
 ghost use Rattle.loop_shapes.specs.Places.{count_of};
 ghost use Rattle.loop_shapes.specs.Program.{IsProgram, program_graph};
-ghost use Rattle.loop_shapes.specs.Sets.{IsListOf};
+ghost use Rattle.loop_data.specs.Sets.{IsListOf};
 
 use crate::body::body_of;
 use crate::closed::closed_rows;

@@ -3,7 +3,7 @@ ghost use Rattle.std.specs.List.{Contains};
 ghost use Rattle.std.specs.List.Sorted.{IsStrictlyIncreasing};
 ghost use Rattle.loop_shapes.specs.Gains.{HasAll};
 ghost use Rattle.loop_shapes.specs.Net.{IsNet, graph_of};
-ghost use Rattle.loop_shapes.specs.Paths.{Leads, Reaches};
+ghost use Rattle.loop_data.specs.Paths.{Leads, Reaches};
 ghost use Rattle.loop_shapes.specs.Reach.{Extended};
 
 use crate::net::Net;

@@ -1,11 +1,11 @@
 ghost use Rattle.std.specs.Prelude.{◌≡◌, ℕ, ◌↔◌, IfOk, OnOk, IsTrue, List};
 ghost use Rattle.std.specs.List.{Contains};
-ghost use Rattle.loop_shapes.specs.Bodies.{IsHeader, InBody};
+ghost use Rattle.loop_data.specs.Bodies.{IsHeader, InBody};
 ghost use Rattle.loop_shapes.specs.Gains.{Gained};
 ghost use Rattle.loop_shapes.specs.Outside.{IsOutside};
 ghost use Rattle.loop_shapes.specs.Program.{IsProgram, program_graph};
-ghost use Rattle.loop_shapes.specs.Sets.{IsListOf};
-ghost use Rattle.loop_shapes.specs.Shape.{InNest};
+ghost use Rattle.loop_data.specs.Sets.{IsListOf};
+ghost use Rattle.loop_data.specs.Shape.{InNest};
 
 use crate::body::in_order;
 use crate::program::{Program, has, is_header};

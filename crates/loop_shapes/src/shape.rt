@@ -1,11 +1,11 @@
 ghost use Rattle.std.specs.Prelude.{◌≡◌, ◌↔◌, ◌<◌, ℕ, IfOk, IfSome, IfNone, MatchOption, IsTrue, length};
 ghost use Rattle.std.specs.List.{Contains};
-ghost use Rattle.loop_shapes.specs.Bodies.{IsClosed, InBody};
+ghost use Rattle.loop_data.specs.Bodies.{IsClosed, InBody};
 ghost use Rattle.loop_shapes.specs.Net.{graph_of};
 ghost use Rattle.loop_shapes.specs.Places.{count_of};
 ghost use Rattle.loop_shapes.specs.Program.{IsProgram, program_graph};
-ghost use Rattle.loop_shapes.specs.Sets.{IsListOf};
-ghost use Rattle.loop_shapes.specs.Shape.{IsExitBranch, IsInner, IsShaped, HasOwnShape};
+ghost use Rattle.loop_data.specs.Sets.{IsListOf};
+ghost use Rattle.loop_data.specs.Shape.{IsExitBranch, IsInner, IsShaped, HasOwnShape};
 
 use crate::cycles::is_acyclic;
 use crate::exits::{back_of, exit_of, is_outermost, is_passed, stays};

@@ -8,8 +8,8 @@ use Rattle.elf_image.specs.declared.image.Elf.{Elf}
 use Rattle.elf_image.specs.declared.rules.ElfErr.{ElfErr}
 use Rattle.loop_data.specs.declared.graph.Graph.{Graph}
 use Rattle.loop_data.specs.declared.shape.LoopShape.{LoopShape}
-use Rattle.flow_recovery.specs.Graphs.{IsGraph}
-use Rattle.loop_shapes.specs.Loops.{AreLoops}
+use Rattle.loop_data.specs.Graphs.{IsGraph}
+use Rattle.loop_data.specs.Loops.{AreLoops}
 use Rattle.rewrite_cli.specs.Listing.{Listing, Lines, TooMany, AreLines, IsListing, IsListingOf, lines_of}
 use Rattle.rewrite_cli.specs.Effect.{listed, of_listing, IsListingIn, is_listed}
 

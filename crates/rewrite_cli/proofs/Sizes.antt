@@ -7,8 +7,9 @@ use Rattle.elf_image.specs.declared.image.Segment.{Segment}
 use Rattle.elf_image.specs.declared.image.Elf.{Elf}
 use Rattle.elf_image.specs.Layout.{LieFrom, IsLoadable, in_code, is_executable, rounded_low, rounded_end}
 use Rattle.loop_data.specs.declared.graph.Graph.{Graph}
-use Rattle.flow_recovery.specs.Graphs.{IsGraph, addresses_of}
-use Rattle.flow_recovery.specs.Reaching.{Reached}
+use Rattle.loop_data.specs.Graphs.{IsGraph}
+use Rattle.loop_data.specs.Paths.{addresses_of}
+use Rattle.loop_data.specs.Reaching.{Reached}
 
 in_code_below : (segments : List Segment) (from addr : ℕ) → LieFrom from segments → in_code segments addr ≡ true → addr < 0x5000_0008
 in_code_below [] from addr lie h = absurd (cc)

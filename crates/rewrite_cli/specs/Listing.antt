@@ -5,9 +5,9 @@ use Rattle.elf_image.specs.declared.rules.ElfErr.{ElfErr}
 use Rattle.loop_data.specs.declared.graph.Graph.{Graph}
 use Rattle.loop_data.specs.declared.shape.LoopShape.{LoopShape}
 use Rattle.flow_recovery.specs.declared.refusal.FlowErr.TheVariants.{TooManyWords}
-use Rattle.flow_recovery.specs.Graphs.{IsGraph}
+use Rattle.loop_data.specs.Graphs.{IsGraph}
 use Rattle.flow_recovery.specs.Refusals.{IsRefused, ReachesAtLeast, word_limit}
-use Rattle.loop_shapes.specs.Loops.{AreLoops}
+use Rattle.loop_data.specs.Loops.{AreLoops}
 use Rattle.report_text.specs.Lines.{loop_line}
 
 -- the lines of all loops, or that too many words are reached

@@ -1,5 +1,5 @@
 use Rattle.std.proofs.Common.{◌≡◌, drop}
-use Rattle.flow_recovery.specs.Code.{word_of}
+use Rattle.loop_data.specs.Code.{word_of}
 use Rattle.flow_recovery.proofs.code.word_at.Given as goal
 
 abbrev pub invariant-loop-segment : goal.invariant-loop-segment

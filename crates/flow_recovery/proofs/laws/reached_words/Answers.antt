@@ -1,4 +1,4 @@
-use Rattle.flow_recovery.specs.Reaching.{entry}
+use Rattle.loop_data.specs.Reaching.{entry}
 use Rattle.flow_recovery.proofs.Closure.{reached_code}
 use Rattle.flow_recovery.proofs.Segments.{code_aligned, code_within, entry_is_code}
 use Rattle.flow_recovery.proofs.laws.reached_words.Goals as goal

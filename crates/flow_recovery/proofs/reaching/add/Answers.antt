@@ -6,8 +6,8 @@ use Rattle.std.proofs.lemmas.List.Elements.{All-push}
 use Rattle.std.proofs.lemmas.Map.Keys.{IsDistinct-push}
 use Rattle.std.proofs.lemmas.Map.Views.{exact_unsigned_eq}
 use Rattle.indexmap.proofs.CallerLemmas.{Contains-insert_key}
-use Rattle.flow_recovery.specs.Code.{IsCode}
-use Rattle.flow_recovery.specs.Reaching.{Reached}
+use Rattle.loop_data.specs.Code.{IsCode}
+use Rattle.loop_data.specs.Reaching.{Reached}
 use Rattle.flow_recovery.specs.Search.{Grows}
 use Rattle.flow_recovery.proofs.Found.{absent, Grows-insert_key}
 use Rattle.flow_recovery.proofs.reaching.add.Goals as goal

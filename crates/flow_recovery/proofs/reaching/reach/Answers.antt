@@ -1,5 +1,5 @@
 use Rattle.std.proofs.Common.{get_or, ap, arith}
-use Rattle.flow_recovery.specs.Reaching.{entry}
+use Rattle.loop_data.specs.Reaching.{entry}
 use Rattle.flow_recovery.proofs.Closure.{LeadTo-turn, LeadTo-end}
 use Rattle.flow_recovery.proofs.Found.{Contains-grown, length-grown}
 use Rattle.flow_recovery.proofs.reaching.reach.Goals as goal

@@ -1,5 +1,5 @@
 use Rattle.std.proofs.Common.{◌-◌, ◌≤◌, take, length, Contains}
-use Rattle.flow_recovery.specs.Code.{IsCode}
+use Rattle.loop_data.specs.Code.{IsCode}
 use Rattle.flow_recovery.specs.Search.{AreReached}
 use Rattle.flow_recovery.proofs.Closure.{LeadTo}
 use Rattle.flow_recovery.proofs.reaching.reach.Given as goal

@@ -1,8 +1,9 @@
 use Rattle.std.proofs.Common.{◌≡◌, ◌∙◌, ◌↔◌, All, Contains, ap, subst, sym, arith}
 use Rattle.std.specs.List.Sorted.{IsStrictlyIncreasing}
 use Rattle.std.proofs.lemmas.List.Elements.{Contains-get_or}
-use Rattle.flow_recovery.specs.Graphs.{addresses_of, IsWord, IsStart}
-use Rattle.flow_recovery.specs.Reaching.{Reached}
+use Rattle.loop_data.specs.Graphs.{IsWordOf, IsStart}
+use Rattle.loop_data.specs.Paths.{addresses_of}
+use Rattle.loop_data.specs.Reaching.{Reached}
 use Rattle.flow_recovery.proofs.Listed.{reaches_no_more}
 use Rattle.flow_recovery.proofs.recovery.recover.Goals as goal
 
@@ -22,7 +23,7 @@ returns-clause-graph c =
       ordered = subst IsStrictlyIncreasing (sym at) c.in_ok-addresses.ensures.order;
       reached = λ a. subst (λ l. Contains l a ↔ Reached elf a) (sym at)
           (let each = c.in_ok-addresses.ensures.each a in (λ m. all.each a (each.0 m), λ r. each.1 (all.every a r)));
-      words = subst (All (IsWord elf)) (sym c.new.ensures) c.in_ok-words.ensures.words;
+      words = subst (All (IsWordOf elf)) (sym c.new.ensures) c.in_ok-words.ensures.words;
       starts_ordered = subst IsStrictlyIncreasing (sym c.new-2.ensures) c.in_ok-starts.ensures.order;
       starts = λ a. subst (λ l. Contains l a ↔ IsStart elf a) (sym c.new-2.ensures) (c.in_ok-starts.ensures.starts a);
     }

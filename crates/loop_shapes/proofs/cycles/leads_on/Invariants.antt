@@ -1,6 +1,6 @@
 use Rattle.std.proofs.Common.{ℕ, ◌<◌, get_or}
 use Rattle.std.specs.List.{Contains}
-use Rattle.loop_shapes.specs.Bodies.{IsClosed}
+use Rattle.loop_data.specs.Bodies.{IsClosed}
 use Rattle.loop_shapes.specs.Program.{program_graph}
 use Rattle.loop_shapes.proofs.cycles.leads_on.Given as goal
 

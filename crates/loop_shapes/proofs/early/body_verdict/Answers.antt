@@ -1,5 +1,5 @@
 use Rattle.std.proofs.Common.{inl, refl, arith}
-use Rattle.loop_shapes.specs.Bodies.{InBody}
+use Rattle.loop_data.specs.Bodies.{InBody}
 use Rattle.loop_shapes.specs.Net.{graph_of}
 use Rattle.loop_shapes.proofs.Leasts.{most_by}
 use Rattle.loop_shapes.proofs.early.body_verdict.Goals as goal

@@ -4,7 +4,7 @@ use Rattle.loop_shapes.specs.Edges.{IsEdgeBetween}
 use Rattle.loop_shapes.specs.Entry.{IsLeastEdge, IsStartAmong}
 use Rattle.loop_shapes.specs.Net.{graph_of}
 use Rattle.loop_shapes.specs.Outside.{IsOutside}
-use Rattle.loop_shapes.specs.Sets.{IsListOf, IsLeast}
+use Rattle.loop_data.specs.Sets.{IsListOf, IsLeast}
 use Rattle.loop_shapes.proofs.Entries.{entrance, start_entry, some_entry, word_on_cycle}
 use Rattle.loop_shapes.proofs.entry.entry_of.Goals as goal
 

@@ -4,7 +4,7 @@ use Rattle.std.proofs.lemmas.Bool.{false≢true}
 use Rattle.loop_data.specs.declared.graph.Graph.{Graph}
 use Rattle.loop_shapes.specs.Entry.{IsStart, IsStartAmong}
 use Rattle.loop_shapes.specs.Net.{graph_of}
-use Rattle.loop_shapes.specs.Sets.{IsListOf}
+use Rattle.loop_data.specs.Sets.{IsListOf}
 use Rattle.std.specs.List.Sorted.{IsStrictlyIncreasing}
 use Rattle.loop_shapes.proofs.Leasts.{least_at, none_at}
 use Rattle.loop_shapes.proofs.entry.first_start.Goals as goal

@@ -1,6 +1,6 @@
 use Rattle.std.proofs.Common.{◌++◌, List, ℕ, length, map, ap, ◌∙◌, subst, arith}
 use Rattle.std.specs.List.{Contains, slice_index}
-use Rattle.loop_shapes.specs.Bodies.{InPart}
+use Rattle.loop_data.specs.Bodies.{InPart}
 use Rattle.loop_shapes.specs.Net.{graph_of}
 use Rattle.loop_shapes.specs.Places.{at}
 use Rattle.loop_shapes.proofs.Parts.{part_small}

@@ -1,6 +1,6 @@
 use Rattle.std.proofs.Common.{sym, subst}
-use Rattle.loop_shapes.specs.Shape.{IsOneBack}
-use Rattle.loop_shapes.specs.Paths.{addresses}
+use Rattle.loop_data.specs.Shape.{IsOneBack}
+use Rattle.loop_data.specs.Paths.{addresses}
 use Rattle.loop_shapes.specs.Program.{program_graph}
 use Rattle.loop_shapes.proofs.Rows.{same_place}
 use Rattle.loop_shapes.proofs.Leaving.{back_by, no_back_by, no_word_no_back}

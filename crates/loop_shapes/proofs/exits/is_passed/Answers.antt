@@ -1,7 +1,7 @@
 use Rattle.std.proofs.Common.{ℕ, List, sym, subst}
 use Rattle.std.specs.List.{Contains}
 use Rattle.loop_shapes.specs.Net.{graph_of}
-use Rattle.loop_shapes.specs.Paths.{Leads, Reaches}
+use Rattle.loop_data.specs.Paths.{Leads, Reaches}
 use Rattle.loop_shapes.specs.Gains.{HasAll}
 use Rattle.loop_shapes.proofs.Leaving.{passed_by}
 use Rattle.loop_shapes.proofs.exits.is_passed.Goals as goal

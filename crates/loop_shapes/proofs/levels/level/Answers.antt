@@ -1,8 +1,8 @@
 use Rattle.std.proofs.Common.{◌≡◌, ℕ, length, sym, subst, arith}
-use Rattle.loop_shapes.specs.Bodies.{InBody}
+use Rattle.loop_data.specs.Bodies.{InBody}
 use Rattle.loop_shapes.specs.Program.{program_graph}
-use Rattle.loop_shapes.specs.Sets.{IsListOf}
-use Rattle.loop_shapes.specs.Shape.{IsShaped, HasOwnShape}
+use Rattle.loop_data.specs.Sets.{IsListOf}
+use Rattle.loop_data.specs.Shape.{IsShaped, HasOwnShape}
 use Rattle.loop_shapes.proofs.Answered.{at_some}
 use Rattle.loop_shapes.proofs.LevelLists.{few_round}
 use Rattle.loop_shapes.proofs.levels.level.Goals as goal

@@ -2,10 +2,10 @@ use Rattle.std.proofs.Common.{ℕ, List, [], ◌∷◌, ◌++◌, get_or, refl, 
 use Rattle.std.specs.List.{Contains}
 use Rattle.std.proofs.lemmas.List.Elements.{Contains-get_or, All-nil}
 use Rattle.loop_data.specs.declared.shape.Level.{Level}
-use Rattle.loop_shapes.specs.Loops.{IsLevel}
+use Rattle.loop_data.specs.Loops.{IsLevel}
 use Rattle.loop_shapes.specs.Outside.{IsOutside}
 use Rattle.loop_shapes.specs.Program.{program_graph}
-use Rattle.loop_shapes.specs.Sets.{IsListOf}
+use Rattle.loop_data.specs.Sets.{IsListOf}
 use Rattle.loop_shapes.proofs.LevelLists.{level_push, level_more, levels_by}
 use Rattle.loop_shapes.proofs.levels.levels_of.Goals as goal
 

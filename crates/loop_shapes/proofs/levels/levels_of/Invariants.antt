@@ -1,7 +1,7 @@
 use Rattle.std.proofs.Common.{◌≡◌, ◌∷◌, map, take}
 use Rattle.std.specs.List.{All}
 use Rattle.loop_data.specs.declared.shape.Level.{Level}
-use Rattle.loop_shapes.specs.Loops.{IsLevel}
+use Rattle.loop_data.specs.Loops.{IsLevel}
 use Rattle.loop_shapes.specs.Program.{program_graph}
 use Rattle.loop_shapes.proofs.levels.levels_of.Given as goal
 

@@ -1,9 +1,9 @@
 use Rattle.std.proofs.Common.{inl, refl, sym, subst}
-use Rattle.loop_shapes.specs.Bodies.{InBody}
-use Rattle.loop_shapes.specs.Early.{IsEarly}
+use Rattle.loop_data.specs.Bodies.{InBody}
+use Rattle.loop_data.specs.Early.{IsEarly}
 use Rattle.loop_shapes.specs.Program.{program_graph}
-use Rattle.loop_shapes.specs.Sets.{IsListOf}
-use Rattle.loop_shapes.specs.Shape.{InNest}
+use Rattle.loop_data.specs.Sets.{IsListOf}
+use Rattle.loop_data.specs.Shape.{InNest}
 use Rattle.loop_shapes.proofs.levels.loop_at.Goals as goal
 
 pub nest_verdict-requires-clause-nest : goal.nest_verdict-requires-clause-nest

@@ -1,9 +1,9 @@
 use Rattle.std.proofs.Common.{get_or, below_more}
 use Rattle.std.proofs.lemmas.List.Elements.{Contains-get_or}
-use Rattle.loop_shapes.specs.Bodies.{InPart}
+use Rattle.loop_data.specs.Bodies.{InPart}
 use Rattle.loop_shapes.specs.Net.{graph_of}
 use Rattle.loop_shapes.specs.Places.{at}
-use Rattle.loop_shapes.specs.Sets.{HasAtMost}
+use Rattle.loop_data.specs.Sets.{HasAtMost}
 use Rattle.loop_shapes.proofs.Parts.{part_small}
 use Rattle.loop_shapes.proofs.Nests.{all_at}
 use Rattle.loop_shapes.proofs.ListedLines.{small_by}

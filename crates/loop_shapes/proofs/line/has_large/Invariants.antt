@@ -1,8 +1,8 @@
 use Rattle.std.proofs.Common.{ℕ, ◌<◌, get_or}
-use Rattle.loop_shapes.specs.Bodies.{InPart}
+use Rattle.loop_data.specs.Bodies.{InPart}
 use Rattle.loop_shapes.specs.Net.{graph_of}
 use Rattle.loop_shapes.specs.Places.{at}
-use Rattle.loop_shapes.specs.Sets.{HasAtMost}
+use Rattle.loop_data.specs.Sets.{HasAtMost}
 use Rattle.loop_shapes.proofs.line.has_large.Given as goal
 
 abbrev pub invariant-loop-source : goal.invariant-loop-source

@@ -1,7 +1,7 @@
 use Rattle.std.proofs.Common.{ℕ, subst}
 use Rattle.loop_shapes.specs.Net.{graph_of}
 use Rattle.loop_shapes.specs.Places.{at}
-use Rattle.loop_shapes.specs.Listed.{HasVerdict}
+use Rattle.loop_data.specs.Listed.{HasVerdict}
 use Rattle.loop_shapes.proofs.ListedLines.{no_edges, limit_line, entry_line, some_large, all_small}
 use Rattle.loop_shapes.proofs.line.line_of.Goals as goal
 

@@ -1,10 +1,10 @@
 use Rattle.std.proofs.Common.{◌≤◌, ℕ, List, length, ap, subst, arith}
-use Rattle.loop_shapes.specs.Bodies.{InBody}
-use Rattle.loop_shapes.specs.Covering.{IsApart, IsCovered}
+use Rattle.loop_data.specs.Bodies.{InBody}
+use Rattle.loop_shapes.specs.Covering.{IsLeftOver, IsCovered}
 use Rattle.loop_shapes.specs.Places.{count_of}
 use Rattle.loop_shapes.specs.Program.{program_graph}
 use Rattle.loop_shapes.specs.Rows.{rows}
-use Rattle.loop_shapes.specs.Sets.{IsListOf}
+use Rattle.loop_data.specs.Sets.{IsListOf}
 use Rattle.loop_shapes.proofs.Coverings.{apart_none, apart_more, apart_all, rows_within}
 use Rattle.loop_shapes.proofs.listed.cover_all.Goals as goal
 
@@ -12,7 +12,7 @@ pub loop-place-init : goal.loop-place-init
 loop-place-init c = apart_none (program_graph c.args.program.now) (rows c.args.left.now) c.requires.left
 
 pub cover-requires-clause-within : goal.cover-requires-clause-within
-cover-requires-clause-within c = rows_within (program_graph c.args.program.now) (IsApart (program_graph c.args.program.now) c.loop-place.place) (rows c.loop-place.left) c.loop-place.invariant
+cover-requires-clause-within c = rows_within (program_graph c.args.program.now) (IsLeftOver (program_graph c.args.program.now) c.loop-place.place) (rows c.loop-place.left) c.loop-place.invariant
 
 pub loop-place-preserved : goal.loop-place-preserved
 loop-place-preserved c =

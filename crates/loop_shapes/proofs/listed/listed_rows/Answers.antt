@@ -3,7 +3,7 @@ use Rattle.std.specs.declared.vec.Vec.{Vec}
 use Rattle.std.specs.declared.alloc.Global.{Global}
 use Rattle.loop_shapes.specs.Covering.{IsReturn}
 use Rattle.loop_shapes.specs.Lines.{AreRowsOf}
-use Rattle.loop_shapes.specs.Listed.{IsListed}
+use Rattle.loop_data.specs.Listed.{IsListed}
 use Rattle.loop_shapes.specs.Program.{program_graph}
 use Rattle.loop_shapes.specs.Rows.{rows}
 use Rattle.loop_shapes.proofs.Rows.{kept_whole}

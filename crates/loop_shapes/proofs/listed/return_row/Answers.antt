@@ -4,7 +4,7 @@ use Rattle.std.specs.declared.vec.Vec.{Vec}
 use Rattle.std.specs.declared.alloc.Global.{Global}
 use Rattle.std.proofs.lemmas.Bool.{false≢true}
 use Rattle.std.proofs.lemmas.List.Elements.{Contains-get_or}
-use Rattle.loop_shapes.specs.Bodies.{IsHeader}
+use Rattle.loop_data.specs.Bodies.{IsHeader}
 use Rattle.loop_shapes.specs.Gains.{Gained}
 use Rattle.loop_shapes.specs.Program.{program_graph}
 use Rattle.loop_shapes.specs.Rows.{rows, row}

@@ -1,6 +1,6 @@
 use Rattle.std.proofs.Common.{refl, below_more}
 use Rattle.loop_shapes.specs.Net.{graph_of}
-use Rattle.loop_shapes.specs.Shape.{IsShaped}
+use Rattle.loop_data.specs.Shape.{IsShaped}
 use Rattle.loop_shapes.proofs.Nests.{all_at}
 use Rattle.loop_shapes.proofs.nest.are_flagged.Goals as goal
 

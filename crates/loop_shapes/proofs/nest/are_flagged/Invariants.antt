@@ -1,6 +1,6 @@
 use Rattle.std.proofs.Common.{ℕ, ◌<◌, get_or}
 use Rattle.loop_shapes.specs.Net.{graph_of}
-use Rattle.loop_shapes.specs.Shape.{IsShaped}
+use Rattle.loop_data.specs.Shape.{IsShaped}
 use Rattle.loop_shapes.proofs.nest.are_flagged.Given as goal
 
 abbrev pub invariant-loop-x : goal.invariant-loop-x

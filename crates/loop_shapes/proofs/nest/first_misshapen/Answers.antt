@@ -1,7 +1,7 @@
 use Rattle.std.proofs.Common.{below_more}
-use Rattle.loop_shapes.specs.Early.{IsMisshapen}
+use Rattle.loop_data.specs.Early.{IsMisshapen}
 use Rattle.loop_shapes.specs.Program.{program_graph}
-use Rattle.loop_shapes.specs.Shape.{InNest, HasShape}
+use Rattle.loop_data.specs.Shape.{InNest, HasShape}
 use Rattle.loop_shapes.proofs.Answered.{passed, failed}
 use Rattle.loop_shapes.proofs.Leasts.{least_at, none_at}
 use Rattle.loop_shapes.proofs.Nests.{misshapen}

@@ -1,8 +1,8 @@
 use Rattle.std.proofs.Common.{ℕ, List, refl, sym, subst}
 use Rattle.std.specs.List.{Contains}
-use Rattle.loop_shapes.specs.Bodies.{InBody}
+use Rattle.loop_data.specs.Bodies.{InBody}
 use Rattle.loop_shapes.specs.Program.{program_graph}
-use Rattle.loop_shapes.specs.Sets.{IsListOf}
+use Rattle.loop_data.specs.Sets.{IsListOf}
 use Rattle.loop_shapes.proofs.Nests.{shape_by_nest}
 use Rattle.loop_shapes.proofs.nest.has_shape.Goals as goal
 

@@ -1,8 +1,8 @@
 use Rattle.std.proofs.Common.{◌≡◌, ◌<◌, ◌≤◌, ◌⊎◌, ℕ, inl, inr, length, get_or, refl, subst, arith}
 use Rattle.std.proofs.lemmas.Bool.{cases_lt, false≢true}
-use Rattle.loop_shapes.specs.Early.{IsRound}
+use Rattle.loop_data.specs.Early.{IsRound}
 use Rattle.loop_shapes.specs.Program.{program_graph}
-use Rattle.loop_shapes.specs.Sets.{HasAtMost}
+use Rattle.loop_data.specs.Sets.{HasAtMost}
 use Rattle.loop_shapes.proofs.Leasts.{most_by}
 use Rattle.loop_shapes.proofs.Nests.{many_loops, deep_loop, small_nest}
 use Rattle.loop_shapes.proofs.nest.is_small_nest.Goals as goal

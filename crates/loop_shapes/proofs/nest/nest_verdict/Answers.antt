@@ -1,8 +1,8 @@
 use Rattle.std.proofs.Common.{ℕ, inr, refl}
 use Rattle.loop_data.specs.declared.graph.Graph.{Graph}
-use Rattle.loop_shapes.specs.Early.{IsMisshapen}
+use Rattle.loop_data.specs.Early.{IsMisshapen}
 use Rattle.loop_shapes.specs.Program.{program_graph}
-use Rattle.loop_shapes.specs.Sets.{IsLeast}
+use Rattle.loop_data.specs.Sets.{IsLeast}
 use Rattle.loop_shapes.proofs.Answered.{passed, failed, at_none}
 use Rattle.loop_shapes.proofs.nest.nest_verdict.Goals as goal
 

@@ -2,7 +2,7 @@ use Rattle.std.proofs.Common.{◌≡◌, ◌<◌, ◌↔◌, ℕ, length, ap, sy
 use Rattle.std.specs.Bool.{IsTrue}
 use Rattle.loop_shapes.specs.Places.{at, count_of}
 use Rattle.loop_shapes.specs.Program.{program_graph}
-use Rattle.loop_shapes.specs.Shape.{IsShaped}
+use Rattle.loop_data.specs.Shape.{IsShaped}
 use Rattle.loop_shapes.proofs.Nests.{flags_push}
 use Rattle.loop_shapes.proofs.nest.shape_flags.Goals as goal
 

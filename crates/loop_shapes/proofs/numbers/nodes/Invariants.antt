@@ -1,7 +1,7 @@
 use Rattle.std.proofs.Common.{◌≡◌, ◌↔◌, ◌<◌, ℕ, length}
 use Rattle.strong_components.specs.Graph.{IsEdge}
 use Rattle.loop_shapes.specs.Net.{graph_of}
-use Rattle.loop_shapes.specs.Paths.{Leads}
+use Rattle.loop_data.specs.Paths.{Leads}
 use Rattle.loop_shapes.specs.Places.{count_of, at}
 use Rattle.loop_shapes.proofs.numbers.nodes.Given as goal
 

@@ -2,7 +2,7 @@ use Rattle.std.proofs.Common.{◌↔◌, ◌<◌, ℕ, length, ◌∙◌, subst,
 use Rattle.std.specs.List.{Contains}
 use Rattle.std.proofs.lemmas.List.{get_or_default}
 use Rattle.loop_shapes.specs.Net.{graph_of}
-use Rattle.loop_shapes.specs.Paths.{Leads}
+use Rattle.loop_data.specs.Paths.{Leads}
 use Rattle.loop_shapes.proofs.Reaching.{reaching_started, reaching_more, reaching_done}
 use Rattle.loop_shapes.proofs.reach.reached_within.Goals as goal
 

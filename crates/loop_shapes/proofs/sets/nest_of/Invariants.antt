@@ -1,5 +1,5 @@
 use Rattle.std.proofs.Common.{◌≡◌, ℕ, [], take}
-use Rattle.loop_shapes.specs.Bodies.{IsHeader}
+use Rattle.loop_data.specs.Bodies.{IsHeader}
 use Rattle.loop_shapes.specs.Gains.{Gained}
 use Rattle.loop_shapes.specs.Program.{program_graph}
 use Rattle.loop_shapes.proofs.Gains.{Among}

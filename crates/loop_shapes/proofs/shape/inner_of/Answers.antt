@@ -4,8 +4,8 @@ use Rattle.std.specs.declared.alloc.Global.{Global}
 use Rattle.std.proofs.lemmas.Result.{IfOk-weaker}
 use Rattle.loop_shapes.specs.Outside.{IsOutside}
 use Rattle.loop_shapes.specs.Program.{program_graph}
-use Rattle.loop_shapes.specs.Sets.{IsListOf}
-use Rattle.loop_shapes.specs.Shape.{IsInner}
+use Rattle.loop_data.specs.Sets.{IsListOf}
+use Rattle.loop_data.specs.Shape.{IsInner}
 use Rattle.loop_shapes.proofs.Shapes.{inner_by}
 use Rattle.loop_shapes.proofs.shape.inner_of.Goals as goal
 

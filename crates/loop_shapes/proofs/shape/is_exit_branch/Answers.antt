@@ -3,10 +3,10 @@ use Rattle.std.specs.Bool.{IsTrue}
 use Rattle.std.specs.List.{Contains}
 use Rattle.std.proofs.lemmas.Bool.{false≢true}
 use Rattle.std.proofs.lemmas.Result.{IfOk-weaker}
-use Rattle.loop_shapes.specs.Bodies.{InBody}
+use Rattle.loop_data.specs.Bodies.{InBody}
 use Rattle.loop_shapes.specs.Program.{program_graph}
-use Rattle.loop_shapes.specs.Sets.{IsListOf}
-use Rattle.loop_shapes.specs.Shape.{IsExitBranch, IsForward, IsOnCycle}
+use Rattle.loop_data.specs.Sets.{IsListOf}
+use Rattle.loop_data.specs.Shape.{IsExitBranch, IsForward, IsOnCycle}
 use Rattle.loop_shapes.proofs.Answered.{passed, failed}
 use Rattle.loop_shapes.proofs.shape.is_exit_branch.Goals as goal
 

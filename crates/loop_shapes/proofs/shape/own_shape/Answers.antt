@@ -1,6 +1,6 @@
 use Rattle.std.proofs.Common.{ℕ}
 use Rattle.loop_data.specs.declared.graph.Graph.{Graph}
-use Rattle.loop_shapes.specs.Shape.{IsOneExit}
+use Rattle.loop_data.specs.Shape.{IsOneExit}
 use Rattle.loop_shapes.specs.Program.{program_graph}
 use Rattle.loop_shapes.proofs.Answered.{passed, failed, at_some, at_none}
 use Rattle.loop_shapes.proofs.Shapes.{no_shape_back, no_shape_exit, no_shape_branch, shape_by}

@@ -1,18 +1,18 @@
 -- Edges that close no loop and are listed as loops nevertheless, with their verdicts.
-use Rattle.std.specs.Prelude.{ℕ, ◌≡◌, ◌≢◌, ◌<◌, ◌≤◌, ◌⊎◌, ⊤}
+use Rattle.std.specs.Prelude.{ℕ, ◌≡◌, ◌≢◌, ◌<◌, ◌≤◌, ◌⊎◌}
 use Rattle.std.specs.List.{Contains}
 use Rattle.loop_data.specs.declared.graph.Graph.{Graph}
 use Rattle.loop_data.specs.declared.verdict.Verdict.{Verdict}
 use Rattle.loop_data.specs.declared.verdict.Verdict.TheVariants.{MultiEntry, Limit}
-use Rattle.loop_shapes.specs.Paths.{Leads, Reaches}
-use Rattle.loop_shapes.specs.Sets.{HasAtMost, IsLeast}
-use Rattle.loop_shapes.specs.Bodies.{InPart, IsHeader, InBody}
+use Rattle.loop_data.specs.Paths.{Leads, Reaches, LeadsFar}
+use Rattle.loop_data.specs.Sets.{HasAtMost, IsLeast}
+use Rattle.loop_data.specs.Bodies.{InPart, IsHeader, InBody}
 
 -- an edge from u back to g, or to itself, is on a cycle, and no loop accounts for it
 pub record IsListed (G : Graph) (g u : ℕ) : Type 0 where
   pub edge : Leads G u g
   pub back : g ≤ u
-  pub returns : Reaches (Leads G) (λ _. ⊤) g u
+  pub returns : LeadsFar G g u
   pub no_loop : ¬ IsHeader G g
   pub apart : (h : ℕ) → InBody G h g → ¬ InBody G h u
 

@@ -6,11 +6,11 @@ use Rattle.loop_data.specs.declared.graph.Graph.{Graph}
 use Rattle.loop_data.specs.declared.shape.Level.{Level}
 use Rattle.loop_data.specs.declared.shape.LoopShape.{LoopShape}
 use Rattle.loop_data.specs.declared.verdict.Verdict.{Verdict}
-use Rattle.loop_shapes.specs.Sets.{IsListOf, HasCount}
-use Rattle.loop_shapes.specs.Bodies.{IsHeader, InBody}
-use Rattle.loop_shapes.specs.Shape.{IsInner, InNest, HasOwnShape}
-use Rattle.loop_shapes.specs.Listed.{IsListed, IsLine}
-use Rattle.loop_shapes.specs.Early.{IsEarly, IsRound, IsMisshapen, IsSmallNest}
+use Rattle.loop_data.specs.Sets.{IsListOf, HasCount}
+use Rattle.loop_data.specs.Bodies.{IsHeader, InBody}
+use Rattle.loop_data.specs.Shape.{IsInner, InNest, HasOwnShape}
+use Rattle.loop_data.specs.Listed.{IsListed, IsLine}
+use Rattle.loop_data.specs.Early.{IsEarly, IsRound, IsMisshapen, IsSmallNest}
 
 -- a loop of the nest at h
 pub record IsLevel (G : Graph) (h : ℕ) (l : Level) : Type 0 where
@@ -50,9 +50,13 @@ pub record IsListedEdge (G : Graph) (s : LoopShape) : Type 0 where
   pub early : s.early ≡ Some verdict
   pub levels : s.levels ≡ []
 
+-- the headers of loops
+abbrev pub headers_of : List LoopShape → List ℕ
+headers_of shapes = map (λ (s : LoopShape). s.header) shapes
+
 -- all listed loops of a program, by header
 pub record AreLoops (G : Graph) (shapes : List LoopShape) : Type 0 where
-  pub ordered : IsStrictlyIncreasing (map (λ (s : LoopShape). s.header) shapes)
+  pub ordered : IsStrictlyIncreasing (headers_of shapes)
   pub each : All (λ s. IsLoop G s ⊎ IsListedEdge G s) shapes
-  pub loops : (h : ℕ) → IsHeader G h → Contains (map (λ (s : LoopShape). s.header) shapes) h
-  pub edges : (g u : ℕ) → IsListed G g u → Contains (map (λ (s : LoopShape). s.header) shapes) g
+  pub loops : (h : ℕ) → IsHeader G h → Contains (headers_of shapes) h
+  pub edges : (g u : ℕ) → IsListed G g u → Contains (headers_of shapes) g

@@ -1,0 +1,12 @@
+pub mod Code
+pub mod Targets
+pub mod Reaching
+pub mod Paths
+pub mod Graphs
+pub mod Sets
+pub mod Bodies
+pub mod Instructions
+pub mod Shape
+pub mod Listed
+pub mod Early
+pub mod Loops
