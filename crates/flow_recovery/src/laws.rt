@@ -4,6 +4,7 @@ ghost use Rattle.elf_image.specs.declared.image.Elf.{Elf};
 ghost use Rattle.loop_data.specs.declared.graph.Graph.{Graph};
 ghost use Rattle.loop_data.specs.Graphs.{IsGraph};
 ghost use Rattle.loop_data.specs.Reaching.{Reached};
+ghost use Rattle.loop_data.specs.Starts.{AreFromStarts};
 
 /// Only aligned words of executable segments are reached, and the entry is one.
 pub fn reached_words()
@@ -15,4 +16,9 @@ pub fn reached_words()
 /// An executable has one graph.
 pub fn one_graph()
     ensures { (elf : Elf) (g h : Graph) → IsGraph elf g → IsGraph elf h → g ≡ h }
+{}
+
+/// In the graph of an executable each word is reached by step edges from a start word.
+pub fn starts()
+    ensures { (elf : Elf) (G : Graph) → IsGraph elf G → AreFromStarts G }
 {}

@@ -10,3 +10,6 @@ pub mod Shape
 pub mod Listed
 pub mod Early
 pub mod Loops
+pub mod Starts
+pub mod Nests
+pub mod LoopWords

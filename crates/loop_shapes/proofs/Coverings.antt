@@ -14,8 +14,8 @@ use Rattle.loop_shapes.specs.Gains.{Gained, HasAll}
 use Rattle.loop_shapes.specs.Lines.{IsRowOf, AreRowsOf}
 use Rattle.loop_data.specs.Listed.{IsListed}
 use Rattle.loop_shapes.specs.Covering.{IsReturn, IsLeftOver, IsCovered}
-use Rattle.loop_shapes.proofs.Ways.{stop, step}
-use Rattle.loop_shapes.proofs.Lists.{rises, from_in}
+use Rattle.loop_data.proofs.Ways.{stop, step}
+use Rattle.loop_data.proofs.Lists.{rises, from_in}
 use Rattle.loop_shapes.proofs.Rows.{none_in, alone, same_place, contains_more}
 use Rattle.loop_shapes.proofs.Parts.{place_of_word, word_at, row_within}
 use Rattle.loop_shapes.proofs.Gains.{Among, gained_all, all_from_nothing}

@@ -12,8 +12,8 @@ use Rattle.loop_shapes.specs.Edges.{IsEdgeBetween}
 use Rattle.loop_shapes.specs.Outside.{IsOutside}
 use Rattle.loop_shapes.specs.Entry.{IsLeastEdge, IsStartAmong}
 use Rattle.loop_data.specs.Listed.{InCore, Enters, StartsIn, IsLeastEntrance, IsLeastStart}
-use Rattle.loop_shapes.proofs.Ways.{stop, step, backward, forward, along, wider, starts_in, ends_in}
-use Rattle.loop_shapes.proofs.Lists.{In, to_in, from_in}
+use Rattle.loop_data.proofs.Ways.{stop, step, backward, forward, along, wider, starts_in, ends_in}
+use Rattle.loop_data.proofs.Lists.{In, to_in, from_in}
 use Rattle.loop_shapes.proofs.Rows.{alone}
 use Rattle.loop_shapes.proofs.Programs.{word_of_source}
 

@@ -5,7 +5,7 @@ use Rattle.std.proofs.lemmas.Bool.{cases_lt}
 use Rattle.std.proofs.lemmas.List.{get_or_default}
 use Rattle.std.proofs.lemmas.List.Elements.{Contains-get_or}
 use Rattle.loop_data.specs.Sets.{IsListOf, IsLeast, HasAtMost}
-use Rattle.loop_shapes.proofs.Lists.{rises, no_longer, apart_from_increasing}
+use Rattle.loop_data.proofs.Lists.{rises, no_longer, apart_from_increasing}
 
 -- the first member of Q in the list of P is the least number in both
 pub least_at : (P Q R : ℕ → Type 0) (xs : List ℕ) → IsListOf P xs → ((x : ℕ) → (P x × Q x) ↔ R x) → (i : ℕ) → i < length xs → ((k : ℕ) → k < i → Q (get_or xs k 0) → ⊥) → Q (get_or xs i 0) → IsLeast R (get_or xs i 0)

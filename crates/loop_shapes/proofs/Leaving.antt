@@ -14,9 +14,9 @@ use Rattle.loop_shapes.specs.Gains.{HasAll, IsOnly}
 use Rattle.loop_shapes.specs.Edges.{IsEdgeBetween}
 use Rattle.loop_shapes.specs.Outside.{IsOutside}
 use Rattle.loop_data.specs.Shape.{IsOneBack, IsOneExit, IsSide, Leaves}
-use Rattle.loop_shapes.proofs.Ways.{stop, step, backward, along, wider, starts_in, ends_in}
+use Rattle.loop_data.proofs.Ways.{stop, step, backward, along, wider, starts_in, ends_in}
 use Rattle.loop_shapes.proofs.Rows.{alone}
-use Rattle.loop_shapes.proofs.Lists.{from_in}
+use Rattle.loop_data.proofs.Lists.{from_in}
 use Rattle.loop_shapes.proofs.Parts.{HasPlace, place_of_source}
 use Rattle.loop_shapes.proofs.Programs.{some_number}
 

@@ -1,6 +1,3 @@
-pub mod Ways
-pub mod Lists
-pub mod UniqueLists
 pub mod UniqueVerdicts
 pub mod Unique
 pub mod Rows
@@ -26,3 +23,11 @@ pub mod ListedLines
 pub mod Numbering
 pub mod Coverings
 pub mod Listings
+pub mod PathGraphs
+pub mod PathBodies
+pub mod Bridge
+pub mod Counts
+pub mod Ranks
+pub mod BodyLaws
+pub mod NestWords
+pub mod NestLaws

@@ -14,7 +14,7 @@ use Rattle.loop_data.specs.Bodies.{InPart}
 use Rattle.loop_shapes.specs.Net.{IsPart}
 use Rattle.loop_shapes.specs.Lines.{IsRowOf, IsLargeAmong, HasLarge}
 use Rattle.loop_data.specs.Listed.{IsListed, IsLine, HasVerdict, IsPastLimit}
-use Rattle.loop_shapes.proofs.Lists.{rises}
+use Rattle.loop_data.proofs.Lists.{rises}
 use Rattle.loop_shapes.proofs.Parts.{place_of_source, contains_map}
 
 -- the words at the places found are at most 256

@@ -12,7 +12,7 @@ use Rattle.loop_data.specs.declared.graph.Graph.{Graph}
 use Rattle.loop_data.specs.Paths.{addresses, IsInOrder, IsWord, Leads, LeadsFar}
 use Rattle.loop_shapes.specs.Places.{count_of, at}
 use Rattle.loop_shapes.specs.Numbers.{AreNodes, AreNumbers}
-use Rattle.loop_shapes.proofs.Ways.{stop, step, backward}
+use Rattle.loop_data.proofs.Ways.{stop, step, backward}
 use Rattle.loop_shapes.proofs.Rows.{same_place}
 use Rattle.loop_shapes.proofs.Parts.{place_of_source, word_at}
 

@@ -13,8 +13,8 @@ use Rattle.loop_shapes.specs.Places.{HasSources, AreFlags, in_row, count_of, at}
 use Rattle.loop_data.specs.Bodies.{ReachesPast, InPart, IsClosed}
 use Rattle.loop_shapes.specs.Search.{RowLeads, InPlaces, HasSearched, AreWithin}
 use Rattle.loop_shapes.specs.Net.{IsAmong, IsPart, HasPart, IsOnlyEntry}
-use Rattle.loop_shapes.proofs.Ways.{stop, step, backward, ends_in}
-use Rattle.loop_shapes.proofs.Lists.{no_longer, apart_from_places}
+use Rattle.loop_data.proofs.Ways.{stop, step, backward, ends_in}
+use Rattle.loop_data.proofs.Lists.{no_longer, apart_from_places}
 use Rattle.loop_shapes.proofs.Rows.{same_place, address_at, none_in}
 
 -- a set with more than n members has not at most n

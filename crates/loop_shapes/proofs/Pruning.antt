@@ -11,8 +11,8 @@ use Rattle.loop_data.specs.Sets.{IsListOf}
 use Rattle.loop_data.specs.Bodies.{IsClosed, InBody}
 use Rattle.loop_shapes.specs.Cycles.{IsOpenStep, LeadsOn, IsPruned}
 use Rattle.loop_data.specs.Shape.{IsForward, IsOnCycle}
-use Rattle.loop_shapes.proofs.Ways.{stop, further, ends_in}
-use Rattle.loop_shapes.proofs.Lists.{In, to_in, from_in, Apart, pigeons}
+use Rattle.loop_data.proofs.Ways.{stop, further, ends_in}
+use Rattle.loop_data.proofs.Lists.{In, to_in, from_in, Apart, pigeons}
 use Rattle.loop_shapes.proofs.Rows.{none_in, contains_more}
 
 -- a list as what stands before a place, at it and behind it

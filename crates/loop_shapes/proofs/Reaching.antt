@@ -9,8 +9,8 @@ use Rattle.loop_data.specs.Paths.{Leads, Reaches}
 use Rattle.loop_shapes.specs.Sets.{AreDifferent}
 use Rattle.loop_shapes.specs.Gains.{HasAll}
 use Rattle.loop_shapes.specs.Reach.{IsNew, Extended}
-use Rattle.loop_shapes.proofs.Ways.{stop, further, forward, starts_in, ends_in}
-use Rattle.loop_shapes.proofs.Lists.{no_longer, apart_from_places, from_in}
+use Rattle.loop_data.proofs.Ways.{stop, further, forward, starts_in, ends_in}
+use Rattle.loop_data.proofs.Lists.{no_longer, apart_from_places, from_in}
 use Rattle.loop_shapes.proofs.Rows.{none_in, alone, contains_more}
 
 -- a number that is not there yet stands at the end

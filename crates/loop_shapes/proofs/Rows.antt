@@ -13,7 +13,7 @@ use Rattle.loop_data.specs.declared.graph.Word.{Word}
 use Rattle.loop_data.specs.declared.graph.Graph.{Graph}
 use Rattle.loop_data.specs.Paths.{addresses, IsInOrder, Leads}
 use Rattle.loop_shapes.specs.Places.{Added, HasSources, AreFlags, Marked, in_row, count_of, at}
-use Rattle.loop_shapes.proofs.Lists.{to_in, from_in, In}
+use Rattle.loop_data.proofs.Lists.{to_in, from_in, In}
 
 -- the places of two equal numbers among numbers that rise
 pub same_place : (xs : List ℕ) → IsStrictlyIncreasing xs → (i j : ℕ) → i < length xs → j < length xs → get_or xs i 0 ≡ get_or xs j 0 → i ≡ j

@@ -8,8 +8,8 @@ use Rattle.loop_data.specs.Paths.{Reaches}
 use Rattle.loop_shapes.specs.Sets.{AreDifferent, HasOver}
 use Rattle.loop_shapes.specs.Places.{in_row}
 use Rattle.loop_shapes.specs.Search.{IsIndexed, Grown, HasRoom, HasNoRoom, HasTried, RowLeads, InPlaces, ArePlaces}
-use Rattle.loop_shapes.proofs.Ways.{stop, step, backward}
-use Rattle.loop_shapes.proofs.Lists.{from_in}
+use Rattle.loop_data.proofs.Ways.{stop, step, backward}
+use Rattle.loop_data.proofs.Lists.{from_in}
 use Rattle.loop_shapes.proofs.Rows.{alone}
 
 -- a number found stands at the place that its slot has

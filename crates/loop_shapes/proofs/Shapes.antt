@@ -5,7 +5,7 @@ use Rattle.loop_data.specs.declared.graph.Graph.{Graph}
 use Rattle.loop_data.specs.Sets.{IsListOf}
 use Rattle.loop_shapes.specs.Outside.{IsOutside}
 use Rattle.loop_data.specs.Shape.{IsInner, InNest, IsOneBack, IsOneExit, IsExitBranch, HasOwnShape, IsShaped}
-use Rattle.loop_shapes.proofs.Lists.{from_in}
+use Rattle.loop_data.proofs.Lists.{from_in}
 use Rattle.loop_shapes.proofs.Rows.{alone}
 
 -- the inner loops are those of the nest without its root

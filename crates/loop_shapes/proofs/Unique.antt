@@ -12,7 +12,7 @@ use Rattle.loop_data.specs.Shape.{IsInner, HasOwnShape}
 use Rattle.loop_data.specs.Listed.{IsLine}
 use Rattle.loop_data.specs.Early.{IsEarly, IsRound}
 use Rattle.loop_data.specs.Loops.{IsLevel, AreLevels, HasLevels, IsLoop, IsListedEdge, headers_of, AreLoops}
-use Rattle.loop_shapes.proofs.UniqueLists.{in_tail, same_members, same_list, same_count}
+use Rattle.loop_data.proofs.Rising.{in_tail, same_members, same_list, same_count}
 use Rattle.loop_shapes.proofs.UniqueVerdicts.{same_early, same_line, line_edge}
 
 -- records with the same headers that their headers determine

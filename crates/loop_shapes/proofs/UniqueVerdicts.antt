@@ -8,7 +8,7 @@ use Rattle.loop_data.specs.Sets.{HasAtMost, IsLeast}
 use Rattle.loop_data.specs.Bodies.{InPart}
 use Rattle.loop_data.specs.Early.{IsShort, IsBodyWord, IsMisshapen, IsSmallNest, IsPlain, IsEarly}
 use Rattle.loop_data.specs.Listed.{IsListed, StartsIn, IsLeastEntrance, IsLeastStart, HasVerdict, IsLine}
-use Rattle.loop_shapes.proofs.UniqueLists.{same_least}
+use Rattle.loop_data.proofs.Rising.{same_least}
 
 -- at most one value has this
 abbrev IsOne : (V : Type 0) → (V → Type 0) → Type 0

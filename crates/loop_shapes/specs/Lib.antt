@@ -16,3 +16,4 @@ pub mod Lines
 pub mod Numbers
 pub mod Covering
 pub mod Below
+pub mod Laws

@@ -2,7 +2,7 @@ use Rattle.std.proofs.Common.{ℕ, List, ◌⊎◌, inl, inr, ◌≤◌, ◌<◌
 use Rattle.std.proofs.lemmas.List.Sorted.{searched}
 use Rattle.std.proofs.lemmas.List.{get_or_default}
 use Rattle.std.proofs.lemmas.Bool.{cases_lt}
-use Rattle.loop_shapes.proofs.Lists.{rises}
+use Rattle.loop_data.proofs.Lists.{rises}
 use Rattle.loop_shapes.proofs.places.place_of.Goals as goal
 
 pub returns-in-Err-clause-none : goal.returns-in-Err-clause-none
