@@ -32,7 +32,7 @@ leads_found elf found a pair are m cases b s code =
       | inr h ↦ leads_alone elf a pair r h.1 b s code
     ]
 
-before_next : (a : ℕ) → a < 2 ^ 64 → before (next_pc a) ≡ a
+pub before_next : (a : ℕ) → a < 2 ^ 64 → before (next_pc a) ≡ a
 before_next a h = omega arith
 
 -- the same of the word behind a reached word

@@ -4,3 +4,4 @@ pub mod Following
 pub mod Listed
 pub mod Segments
 pub mod Unique
+pub mod Pairs

@@ -78,8 +78,8 @@ fn follow(elf: &Elf, found: &mut IndexSet<u64>, at: u64, pair: Option<u64>) -> R
     }
 }
 
-// Adds all to which a found word leads. If the word behind it was found before as the second of a pair,
-// also where that pair leads.
+// Adds all to which a found word leads, and where a pair leads of which it is the first: then it led on
+// to the second.
 fn visit(elf: &Elf, found: &mut IndexSet<u64>, at: u64) -> Result<(), FlowErr>
     requires loadable { IsLoadable elf.now }
     requires reached { AreReached elf.now found.old.keys }
@@ -93,7 +93,7 @@ fn visit(elf: &Elf, found: &mut IndexSet<u64>, at: u64) -> Result<(), FlowErr>
     follow(elf, found, at, pair)?;
     let second = next(at);
     let behind = pair_at(elf, second);
-    if behind.is_some() && has(found, second) {
+    if behind.is_some() {
         follow(elf, found, second, behind)?;
     }
     Ok(())

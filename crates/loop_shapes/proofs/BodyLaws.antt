@@ -1,11 +1,9 @@
 -- How the bodies of the loops of an executable lie to each other.
-use Rattle.std.proofs.Common.{◌≡◌, ◌≢◌, ℕ, ◌⊎◌, inl, inr, List, [], ◌∷◌, length, false, refl, sym, ◌∙◌, subst, arith, ◌↔◌}
+use Rattle.std.proofs.Common.{◌≡◌, ◌≢◌, ℕ, ◌⊎◌, inl, inr, List, [], ◌∷◌, false, refl, sym, subst, arith}
 use Rattle.std.specs.List.{Contains}
 use Rattle.std.specs.List.Sorted.{IsStrictlyIncreasing}
 use Rattle.std.proofs.lemmas.Bool.{cases_eq}
-use Rattle.elf_image.specs.declared.image.Elf.{Elf}
 use Rattle.loop_data.specs.declared.graph.Graph.{Graph}
-use Rattle.loop_data.specs.Graphs.{IsGraph}
 use Rattle.loop_data.specs.Paths.{Leads, IsWay, Reaches}
 use Rattle.loop_data.specs.Starts.{AreFromStarts}
 use Rattle.loop_data.specs.Sets.{HasCount}
@@ -82,9 +80,12 @@ module _ (G : Graph) (starts : AreFromStarts G) where
   -- what follows the header on a way to the source is in the loop
   way_in : (h u : ℕ) → IsClosed G h u → (ws : List ℕ) (x : ℕ) → InBody G h x → IsPath (tests G) ws x u → has ws h ≡ false → IsWay (Leads G) (InBody G h) ws x u
   way_in h u c [] x b p f = (b, p)
-  way_in h u c (z ∷ zs) x b p f =
-      (b, is_leads G x z p.0, way_in h u c zs z
-      (record { source = u; closed = c; part = inr (from_reaches G h z u (record { words = zs; path = p.1; avoids = f })) }) p.1 (has_head z h zs f).1)
+  way_in h u c (z ∷ zs) x b p f = (
+    b,
+    is_leads G x z p.0,
+    way_in h u c zs z
+        (record { source = u; closed = c; part = inr (from_reaches G h z u (record { words = zs; path = p.1; avoids = f })) }) p.1 (has_head z h zs f).1,
+  )
 
   from_header : (h u : ℕ) → IsClosed G h u → Reaches (Leads G) (InBody G h) h u
   from_header h u c =

@@ -1,9 +1,8 @@
 -- The step edges, ways and bodies of a program, over tests and lists.
-use Rattle.std.proofs.Common.{◌≡◌, ◌≢◌, ℕ, ◌⊎◌, inl, inr, List, [], ◌∷◌, Bool, true, false, refl, ap, sym, ◌∙◌, subst, if◌then◌else◌, ◌==◌}
+use Rattle.std.proofs.Common.{◌≡◌, ◌≢◌, ℕ, inl, inr, List, [], ◌∷◌, Bool, true, false, refl, ap, sym, ◌∙◌, subst, if◌then◌else◌, ◌==◌}
 use Rattle.std.specs.Prelude.{⊤}
-use Rattle.std.specs.List.{Contains}
 use Rattle.loop_data.specs.declared.graph.Graph.{Graph}
-use Rattle.loop_data.specs.Paths.{Leads, IsWord, IsWay, Reaches}
+use Rattle.loop_data.specs.Paths.{Leads, IsWord, IsWay}
 use Rattle.loop_data.specs.Bodies.{ReachesPast, InPart, IsClosed}
 use Rattle.loop_data.specs.Starts.{FromStart, AreFromStarts}
 use Rattle.loop_data.specs.Nests.{has, leads_in}

@@ -1,6 +1,6 @@
 -- The levels of a loop whose nest has the shape are a nest.
-use Rattle.std.proofs.Common.{◌≡◌, ◌≢◌, ℕ, zero, suc, ◌<◌, ◌≤◌, ◌⊎◌, inl, inr, List, [], ◌∷◌, length, map, Bool, true, false, Option, None, refl, ap, sym, ◌∙◌, subst, arith, if◌then◌else◌, ◌==◌}
-use Rattle.std.specs.List.{All, Contains}
+use Rattle.std.proofs.Common.{◌≡◌, ◌≢◌, ℕ, suc, ◌<◌, ◌≤◌, ◌⊎◌, inl, inr, List, [], ◌∷◌, length, map, Bool, true, false, Option, None, refl, ap, sym, ◌∙◌, subst, arith, if◌then◌else◌, ◌==◌}
+use Rattle.std.specs.List.{All}
 use Rattle.std.proofs.lemmas.List.{length-map}
 use Rattle.std.proofs.lemmas.List.Elements.{All-head, All-tail}
 use Rattle.std.proofs.lemmas.Bool.{cases_eq}
@@ -9,20 +9,20 @@ use Rattle.loop_data.specs.declared.graph.Graph.{Graph}
 use Rattle.loop_data.specs.declared.verdict.Verdict.{Verdict}
 use Rattle.loop_data.specs.Graphs.{IsGraph}
 use Rattle.loop_data.specs.declared.shape.Level.{Level}
-use Rattle.loop_data.specs.Paths.{Leads, IsWord, IsWay, Reaches}
+use Rattle.loop_data.specs.Paths.{Leads, Reaches}
 use Rattle.loop_data.specs.Starts.{AreFromStarts}
-use Rattle.loop_data.specs.Sets.{HasAtMost, IsListOf, HasCount}
-use Rattle.loop_data.specs.Bodies.{ReachesPast, InPart, IsClosed, IsHeader, InBody}
-use Rattle.loop_data.specs.Shape.{IsInner, InNest, IsForward, HasOwnShape, IsOnCycle}
+use Rattle.loop_data.specs.Sets.{HasCount}
+use Rattle.loop_data.specs.Bodies.{ReachesPast, InPart, IsClosed, InBody}
+use Rattle.loop_data.specs.Shape.{IsInner, InNest, IsForward}
 use Rattle.loop_data.specs.Early.{IsRound, IsSmallNest, IsPlain, IsEarly}
 use Rattle.loop_data.specs.Loops.{IsLevel, AreLevels, HasLevels}
 use Rattle.loop_data.specs.LoopWords.{AreNest}
-use Rattle.loop_data.specs.Nests.{Nest, has, leads_in, nest_of, In as IsListedIn, AreDistinct, levels, Among, Edge, IsPassTo, IsPass, HasSides, ClosesNone, IsRank, IsEntered, AreNested, HasShapes, IsNest}
-use Rattle.loop_data.proofs.Lists.{In, to_in, from_in, Apart, pigeons}
+use Rattle.loop_data.specs.Nests.{has, leads_in, nest_of, In as IsListedIn, AreDistinct, levels, Among, Edge, IsPassTo, IsPass, HasSides, ClosesNone, IsRank, IsEntered, AreNested, HasShapes, IsNest}
+use Rattle.loop_data.proofs.Lists.{In, to_in, Apart, pigeons}
 use Rattle.loop_data.proofs.FromStarts.{from_starts}
-use Rattle.loop_data.proofs.Ways.{stop, join, further, wider, ends_in, starts_in}
-use Rattle.loop_data.proofs.Tests.{eq_of, ne_of, is_eq, is_ne, true_or_false, yes_no, not_true}
-use Rattle.loop_data.proofs.Steps.{has_in, in_has, has_contains, contains_has, leads_is, is_leads, word_from}
+use Rattle.loop_data.proofs.Ways.{stop, join, further, ends_in}
+use Rattle.loop_data.proofs.Tests.{eq_of, ne_of, is_ne, true_or_false, yes_no, not_true}
+use Rattle.loop_data.proofs.Steps.{has_contains, contains_has, leads_is, is_leads}
 use Rattle.loop_shapes.specs.Laws.{NestLaw}
 use Rattle.loop_shapes.proofs.NestWords.{loop_word}
 use Rattle.loop_shapes.proofs.Bridge.{tests, to_body, from_body, to_closed, to_reached, word_in}

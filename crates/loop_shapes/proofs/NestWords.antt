@@ -1,5 +1,5 @@
 -- What the words of a loop say, from the reached words of an executable and the verdicts that the shape decides.
-use Rattle.std.proofs.Common.{◌≡◌, ◌≢◌, ℕ, ◌%◌, ◌⊎◌, inl, inr, List, [], ◌∷◌, Bool, true, false, Option, Some, None, refl, ap, sym, ◌∙◌, subst, arith, if◌then◌else◌, ◌==◌, ◌↔◌}
+use Rattle.std.proofs.Common.{◌≡◌, ◌≢◌, ℕ, ◌%◌, ◌⊎◌, inl, inr, List, [], ◌∷◌, Bool, true, false, Option, Some, None, refl, ap, sym, ◌∙◌, subst, arith, if◌then◌else◌, ◌==◌}
 use Rattle.std.specs.Prelude.{IsTrue, is_some}
 use Rattle.std.specs.List.{Contains}
 use Rattle.std.proofs.lemmas.Bool.Decides.{nat_tests}
@@ -22,8 +22,7 @@ use Rattle.loop_data.specs.Early.{IsPlain}
 use Rattle.loop_data.specs.LoopWords.{next_words, IsPlainInstr, IsLoopWord}
 use Rattle.loop_data.proofs.Lists.{In, to_in, from_in, Apart, apart_from_increasing}
 use Rattle.loop_data.proofs.Steps.{Within, within_at}
-use Rattle.loop_data.proofs.FromStarts.{from_starts, at_in}
-use Rattle.loop_shapes.specs.Laws.{AreBodies}
+use Rattle.loop_data.proofs.FromStarts.{at_in}
 use Rattle.loop_shapes.proofs.Bridge.{word_in}
 use Rattle.loop_shapes.proofs.BodyLaws.{body_law}
 

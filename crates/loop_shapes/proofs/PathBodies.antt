@@ -1,7 +1,7 @@
 -- How the bodies of loops lie to each other.
 use Rattle.std.proofs.Common.{◌≡◌, ◌≢◌, ℕ, zero, suc, ◌<◌, ◌⊎◌, inl, inr, List, [], ◌∷◌, length, Bool, true, false, refl, ap, sym, ◌∙◌, subst, arith, if◌then◌else◌, ◌==◌}
 use Rattle.loop_data.specs.Nests.{has}
-use Rattle.loop_data.proofs.Tests.{eq_of, ne_of, is_eq, is_ne, true_or_false, yes_no}
+use Rattle.loop_data.proofs.Tests.{eq_of, ne_of, is_ne, true_or_false, yes_no}
 use Rattle.loop_shapes.proofs.PathGraphs.{PathGraph, IsPath, IsFromStart, InPathBody, IsClosedPath}
 
 pub has_head : (x h : ℕ) (xs : List ℕ) → has (x ∷ xs) h ≡ false → (x ≢ h) × (has xs h ≡ false)

@@ -1,9 +1,9 @@
 -- Where no way of edges that close no loop comes back to its start, the longest ways are a rank.
-use Rattle.std.proofs.Common.{◌≡◌, ◌≢◌, ℕ, zero, suc, ◌<◌, ◌≤◌, ◌⊎◌, inl, inr, List, [], ◌∷◌, length, Bool, true, false, ◌&&◌, not, refl, ap, sym, ◌∙◌, subst, arith, if◌then◌else◌, ◌==◌, max}
+use Rattle.std.proofs.Common.{◌≡◌, ◌≢◌, ℕ, zero, suc, ◌<◌, ◌≤◌, ◌⊎◌, inl, inr, List, [], ◌∷◌, length, Bool, true, false, ◌&&◌, refl, ap, sym, ◌∙◌, subst, arith, if◌then◌else◌, ◌==◌, max}
 use native.Mathlib.Decide.{dec_le}
 use Rattle.loop_data.specs.declared.shape.Level.{Level}
-use Rattle.loop_data.specs.Nests.{Nest, has, In, levels, Among, Edge, ClosesNone, IsRank}
-use Rattle.loop_data.proofs.Tests.{eq_of, ne_of, is_eq, is_ne, true_or_false, and_true, true_and}
+use Rattle.loop_data.specs.Nests.{Nest, has, In, levels, Edge, ClosesNone, IsRank}
+use Rattle.loop_data.proofs.Tests.{eq_of, is_eq, true_or_false, and_true, true_and}
 
 -- the edge closes none of these loops
 abbrev is_open : List Level → ℕ → ℕ → Bool
