@@ -9,7 +9,7 @@ use Rattle.elf_image.specs.declared.rules.HeaderRule.TheVariants.{SegmentSize, S
 use Rattle.elf_image.specs.Header.{file_header, program_headers, HasHeaders}
 use Rattle.elf_image.specs.Layout.{LieFrom, IsLoadable, load_end, rounded_low, rounded_end, rounded_length, is_writable, is_executable, in_code, total_length}
 use Rattle.elf_image.specs.Rules.{breaks, makes_area, area_bytes, range_low, range_end, meet, holds_code, in_executable}
-use Rattle.elf_image.specs.Reading.{segment_of, placed, segments_from, segments_of, elf_of}
+use Rattle.elf_image.specs.Reading.{segment_of, with_segment, segments_from, segments_of, elf_of}
 use Rattle.elf_image.proofs.Passed.{IsWhole, PassesRules, NoneHas, Apart, none_has, is_below, is_whole, is_sized, is_strict, length-headers}
 
 -- ---- one more segment
@@ -35,11 +35,11 @@ starts_behind : (s t : Segment) → 0 < s.memsz → t.vaddr ≤ s.vaddr → (rou
 starts_behind s t some h (inl e) = absurd (omega arith)
 starts_behind s t some h (inr e) = e
 
-placed_lies : (from : ℕ) (s : Segment) (xs : List Segment) → IsFit s → from ≤ rounded_low s → Clear s xs → LieFrom from xs → LieFrom from (placed s xs)
+placed_lies : (from : ℕ) (s : Segment) (xs : List Segment) → IsFit s → from ≤ rounded_low s → Clear s xs → LieFrom from xs → LieFrom from (with_segment s xs)
 placed_lies from s [] fit low clear lie = (low, fit.some, fit.sized, fit.below, fit.strict, tt)
 placed_lies from s (t ∷ rest) fit low clear lie = go (nat_lt s.vaddr t.vaddr) refl (λ end. placed_lies (rounded_end t) s rest fit end clear.1 lie.5)
   where
-    go : (b : Bool) → nat_lt s.vaddr t.vaddr ≡ b → (rounded_end t ≤ rounded_low s → LieFrom (rounded_end t) (placed s rest)) → LieFrom from (if b then s ∷ (t ∷ rest) else t ∷ placed s rest)
+    go : (b : Bool) → nat_lt s.vaddr t.vaddr ≡ b → (rounded_end t ≤ rounded_low s → LieFrom (rounded_end t) (with_segment s rest)) → LieFrom from (if b then s ∷ (t ∷ rest) else t ∷ with_segment s rest)
     go true e later =
         let end = ends_before s t lie.1 (ltb-true _ _ e) clear.0 in
         (low, fit.some, fit.sized, fit.below, fit.strict, (end, lie.1, lie.2, lie.3, lie.4, lie.5))
@@ -48,27 +48,27 @@ placed_lies from s (t ∷ rest) fit low clear lie = go (nat_lt s.vaddr t.vaddr) 
         let end = starts_behind s t fit.some start clear.0 in
         (lie.0, lie.1, lie.2, lie.3, lie.4, later end)
 
-clear_placed : (s t : Segment) (xs : List Segment) → (rounded_end s ≤ rounded_low t) ⊎ (rounded_end t ≤ rounded_low s) → Clear s xs → Clear s (placed t xs)
+clear_placed : (s t : Segment) (xs : List Segment) → (rounded_end s ≤ rounded_low t) ⊎ (rounded_end t ≤ rounded_low s) → Clear s xs → Clear s (with_segment t xs)
 clear_placed s t [] apart clear = (apart, tt)
 clear_placed s t (x ∷ rest) apart clear = go (nat_lt t.vaddr x.vaddr) (clear_placed s t rest apart clear.1)
   where
-    go : (b : Bool) → Clear s (placed t rest) → Clear s (if b then t ∷ (x ∷ rest) else x ∷ placed t rest)
+    go : (b : Bool) → Clear s (with_segment t rest) → Clear s (if b then t ∷ (x ∷ rest) else x ∷ with_segment t rest)
     go true later = (apart, clear)
     go false later = (clear.0, later)
 
-length-placed : (s : Segment) (xs : List Segment) → length (placed s xs) ≡ suc (length xs)
+length-placed : (s : Segment) (xs : List Segment) → length (with_segment s xs) ≡ suc (length xs)
 length-placed s [] = refl
 length-placed s (t ∷ rest) = go (nat_lt s.vaddr t.vaddr) (length-placed s rest)
   where
-    go : (b : Bool) → length (placed s rest) ≡ suc (length rest) → length (if b then s ∷ (t ∷ rest) else t ∷ placed s rest) ≡ suc (suc (length rest))
+    go : (b : Bool) → length (with_segment s rest) ≡ suc (length rest) → length (if b then s ∷ (t ∷ rest) else t ∷ with_segment s rest) ≡ suc (suc (length rest))
     go true later = refl
     go false later = ap suc later
 
-total-placed : (s : Segment) (xs : List Segment) → total_length (placed s xs) ≡ rounded_length s + total_length xs
+total-placed : (s : Segment) (xs : List Segment) → total_length (with_segment s xs) ≡ rounded_length s + total_length xs
 total-placed s [] = refl
 total-placed s (t ∷ rest) = go (nat_lt s.vaddr t.vaddr) (total-placed s rest)
   where
-    go : (b : Bool) → total_length (placed s rest) ≡ rounded_length s + total_length rest → total_length (if b then s ∷ (t ∷ rest) else t ∷ placed s rest) ≡ rounded_length s + (rounded_length t + total_length rest)
+    go : (b : Bool) → total_length (with_segment s rest) ≡ rounded_length s + total_length rest → total_length (if b then s ∷ (t ∷ rest) else t ∷ with_segment s rest) ≡ rounded_length s + (rounded_length t + total_length rest)
     go true later = refl
     go false later = omega arith
 
@@ -78,11 +78,11 @@ or_swap true false c = refl
 or_swap false true c = refl
 or_swap false false c = refl
 
-code-placed : (s : Segment) (xs : List Segment) (addr : ℕ) → in_code (placed s xs) addr ≡ in_code (s ∷ xs) addr
+code-placed : (s : Segment) (xs : List Segment) (addr : ℕ) → in_code (with_segment s xs) addr ≡ in_code (s ∷ xs) addr
 code-placed s [] addr = refl
 code-placed s (t ∷ rest) addr = go (nat_lt s.vaddr t.vaddr) (code-placed s rest addr)
   where
-    go : (b : Bool) → in_code (placed s rest) addr ≡ in_code (s ∷ rest) addr → in_code (if b then s ∷ (t ∷ rest) else t ∷ placed s rest) addr ≡ in_code (s ∷ (t ∷ rest)) addr
+    go : (b : Bool) → in_code (with_segment s rest) addr ≡ in_code (s ∷ rest) addr → in_code (if b then s ∷ (t ∷ rest) else t ∷ with_segment s rest) addr ≡ in_code (s ∷ (t ∷ rest)) addr
     go true later = refl
     go false later =
         ap (λ (b : Bool). is_executable t && (nat_le (rounded_low t) addr && nat_lt addr (rounded_end t)) || b) later
@@ -117,7 +117,7 @@ clear_of : (bytes : List ℕ) (i j : ℕ) (h : ProgramHeader) (hs : List Program
 clear_of bytes i j h [] m none = tt
 clear_of bytes i j h (x ∷ rest) m none = go (makes_area x) refl (clear_of bytes i (suc j) h rest m none.1)
   where
-    go : (b : Bool) → makes_area x ≡ b → Clear (segment_of bytes i h) (segments_from bytes (suc j) rest) → Clear (segment_of bytes i h) (if b then placed (segment_of bytes j x) (segments_from bytes (suc j) rest) else segments_from bytes (suc j) rest)
+    go : (b : Bool) → makes_area x ≡ b → Clear (segment_of bytes i h) (segments_from bytes (suc j) rest) → Clear (segment_of bytes i h) (if b then with_segment (segment_of bytes j x) (segments_from bytes (suc j) rest) else segments_from bytes (suc j) rest)
     go true n later = clear_placed (segment_of bytes i h) (segment_of bytes j x) (segments_from bytes (suc j) rest) (not_meeting h x m n none.0) later
     go false n later = later
 
@@ -126,7 +126,7 @@ lie_from : (bytes : List ℕ) (i : ℕ) (hs : List ProgramHeader) → NoneHas (b
 lie_from bytes i [] sized cut strict range apart = tt
 lie_from bytes i (h ∷ rest) sized cut strict range apart = go (makes_area h) refl (lie_from bytes (suc i) rest sized.1 cut.1 strict.1 range.1 apart.1)
   where
-    go : (b : Bool) → makes_area h ≡ b → LieFrom 0 (segments_from bytes (suc i) rest) → LieFrom 0 (if b then placed (segment_of bytes i h) (segments_from bytes (suc i) rest) else segments_from bytes (suc i) rest)
+    go : (b : Bool) → makes_area h ≡ b → LieFrom 0 (segments_from bytes (suc i) rest) → LieFrom 0 (if b then with_segment (segment_of bytes i h) (segments_from bytes (suc i) rest) else segments_from bytes (suc i) rest)
     go true m later =
         placed_lies 0 (segment_of bytes i h) (segments_from bytes (suc i) rest) (fit_of bytes i h m sized.0 cut.0 strict.0 range.0) (omega arith)
         (clear_of bytes i (suc i) h rest m apart.0) later
@@ -136,7 +136,7 @@ few_from : (bytes : List ℕ) (i : ℕ) (hs : List ProgramHeader) → length (se
 few_from bytes i [] = omega arith
 few_from bytes i (h ∷ rest) = go (makes_area h) (few_from bytes (suc i) rest)
   where
-    go : (b : Bool) → length (segments_from bytes (suc i) rest) ≤ length rest → length (if b then placed (segment_of bytes i h) (segments_from bytes (suc i) rest) else segments_from bytes (suc i) rest) ≤ suc (length rest)
+    go : (b : Bool) → length (segments_from bytes (suc i) rest) ≤ length rest → length (if b then with_segment (segment_of bytes i h) (segments_from bytes (suc i) rest) else segments_from bytes (suc i) rest) ≤ suc (length rest)
     go true later = let e = length-placed (segment_of bytes i h) (segments_from bytes (suc i) rest) in omega arith
     go false later = omega arith
 
@@ -144,7 +144,7 @@ total_from : (bytes : List ℕ) (i : ℕ) (hs : List ProgramHeader) → total_le
 total_from bytes i [] = refl
 total_from bytes i (h ∷ rest) = go (makes_area h) (total_from bytes (suc i) rest)
   where
-    go : (b : Bool) → total_length (segments_from bytes (suc i) rest) ≡ area_bytes rest → total_length (if b then placed (segment_of bytes i h) (segments_from bytes (suc i) rest) else segments_from bytes (suc i) rest) ≡ (if b then range_end h - range_low h + area_bytes rest else area_bytes rest)
+    go : (b : Bool) → total_length (segments_from bytes (suc i) rest) ≡ area_bytes rest → total_length (if b then with_segment (segment_of bytes i h) (segments_from bytes (suc i) rest) else segments_from bytes (suc i) rest) ≡ (if b then range_end h - range_low h + area_bytes rest else area_bytes rest)
     go true later = total-placed (segment_of bytes i h) (segments_from bytes (suc i) rest) ∙ ap (λ (n : ℕ). range_end h - range_low h + n) later
     go false later = later
 
@@ -153,7 +153,7 @@ code_from bytes i [] addr = refl
 code_from bytes i (h ∷ rest) addr = go (makes_area h) refl (code_from bytes (suc i) rest addr)
   where
     go : (b : Bool) → makes_area h ≡ b → in_code (segments_from bytes (suc i) rest) addr ≡ in_executable rest addr
-        → in_code (if b then placed (segment_of bytes i h) (segments_from bytes (suc i) rest) else segments_from bytes (suc i) rest) addr ≡ (holds_code h addr || in_executable rest addr)
+        → in_code (if b then with_segment (segment_of bytes i h) (segments_from bytes (suc i) rest) else segments_from bytes (suc i) rest) addr ≡ (holds_code h addr || in_executable rest addr)
     go true m later =
         code-placed (segment_of bytes i h) (segments_from bytes (suc i) rest) addr
         ∙ rw (m) (ap (λ (b : Bool). h.flags % 2 == 1 && (nat_le (range_low h) addr && nat_lt addr (range_end h)) || b) later)

@@ -8,7 +8,7 @@ use Rattle.elf_image.specs.declared.rules.HeaderRule.TheVariants.{SegmentSize, S
 use Rattle.elf_image.specs.declared.header.ProgramHeader.{ProgramHeader}
 use Rattle.elf_image.specs.Header.{is_elf, file_header, program_headers, program_headers_from}
 use Rattle.elf_image.specs.Layout.{load_end}
-use Rattle.elf_image.specs.Rules.{unless, first_of, file_rules, file_refusal, table_rules, breaks, makes_area, first_place, refused_at, headers_rules, headers_refusal, area_bytes, range_low, range_end, meet, overlap_from, overlaps, program_rules, program_refusal, in_executable}
+use Rattle.elf_image.specs.Rules.{unless, first_of, file_rules, file_refusal, table_rules, breaks, makes_area, first_place, refused_at, headers_rules, headers_refusal, area_bytes, range_low, range_end, meet, overlap_from, overlap_or, program_rules, program_refusal, in_executable}
 use Rattle.elf_image.specs.declared.rules.ElfErr.TheVariants.{OutOfMemory}
 use Rattle.elf_image.specs.declared.image.Elf.{Elf}
 use Rattle.elf_image.specs.Reading.{refusal_of, reading_of, elf_of, IsReading}
@@ -142,7 +142,7 @@ area_bytes-le size (h ∷ rest) all = go (makes_area h) refl (area_bytes-le size
     go true m later = let below = is_below size h all.0 m in omega arith
     go false m later = omega arith
 
--- ---- overlaps
+-- ---- overlap_or
 
 -- no two headers' areas meet
 abbrev pub Apart : List ProgramHeader → Type 0
@@ -153,7 +153,7 @@ pub apart_from : (i : ℕ) (hs : List ProgramHeader) → overlap_from i hs ≡ N
 apart_from i [] e = tt
 apart_from i (h ∷ rest) e = go (first_place (meet h) (suc i) rest) refl e (apart_from (suc i) rest)
   where
-    go : (place : Option ℕ) → first_place (meet h) (suc i) rest ≡ place → overlaps i place (overlap_from (suc i) rest) ≡ None → (overlap_from (suc i) rest ≡ None → Apart rest) → NoneHas (meet h) rest × Apart rest
+    go : (place : Option ℕ) → first_place (meet h) (suc i) rest ≡ place → overlap_or i place (overlap_from (suc i) rest) ≡ None → (overlap_from (suc i) rest ≡ None → Apart rest) → NoneHas (meet h) rest × Apart rest
     go None p e later = (none_has (meet h) (suc i) rest p, later e)
     go (Some j) p e later = absurd (cc)
 

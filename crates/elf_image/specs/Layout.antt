@@ -13,12 +13,19 @@ is_writable s = s.flags / 2 % 2 == 1
 abbrev pub is_readable : Segment → Bool
 is_readable s = s.flags / 4 % 2 == 1
 
--- the byte range of a segment in memory, widened outward to multiples of 8
+-- a byte range of memory, from its first address on so long, widened outward to multiples of 8
+abbrev pub widened_low : ℕ → ℕ
+widened_low vaddr = vaddr / 8 * 8
+
+abbrev pub widened_end : ℕ → ℕ → ℕ
+widened_end vaddr memsz = (vaddr + memsz + 7) / 8 * 8
+
+-- that of a segment
 abbrev pub rounded_low : Segment → ℕ
-rounded_low s = s.vaddr / 8 * 8
+rounded_low s = widened_low s.vaddr
 
 abbrev pub rounded_end : Segment → ℕ
-rounded_end s = (s.vaddr + s.memsz + 7) / 8 * 8
+rounded_end s = widened_end s.vaddr s.memsz
 
 -- how many bytes it has there
 abbrev pub rounded_length : Segment → ℕ

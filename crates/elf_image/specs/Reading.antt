@@ -11,18 +11,25 @@ use Rattle.elf_image.specs.Rules.{first_of, makes_area, file_refusal, program_re
 -- the segment of the header at this place among all headers
 abbrev pub segment_of : List ℕ → ℕ → ProgramHeader → Segment
 segment_of bytes index h =
-    record { index = index; vaddr = h.vaddr; memsz = h.memsz; flags = h.flags; bytes = take h.filesz (drop h.offset bytes) }
+    record {
+      index = index;
+      vaddr = h.vaddr;
+      memsz = h.memsz;
+      flags = h.flags;
+      bytes = take h.filesz (drop h.offset bytes);
+    }
 
 -- the segments with one more, before the first that starts above it
-abbrev pub placed : Segment → List Segment → List Segment
-placed s [] = s ∷ []
-placed s (t ∷ rest) = if nat_lt s.vaddr t.vaddr then s ∷ (t ∷ rest) else t ∷ placed s rest
+abbrev pub with_segment : Segment → List Segment → List Segment
+with_segment s [] = s ∷ []
+with_segment s (t ∷ rest) = if nat_lt s.vaddr t.vaddr then s ∷ (t ∷ rest) else t ∷ with_segment s rest
 
 -- the segments of the headers that make areas, in address order, where the first header has this place
 abbrev pub segments_from : List ℕ → ℕ → List ProgramHeader → List Segment
 segments_from bytes index [] = []
 segments_from bytes index (h ∷ rest) =
-    if makes_area h then placed (segment_of bytes index h) (segments_from bytes (suc index) rest) else segments_from bytes (suc index) rest
+    let others = segments_from bytes (suc index) rest in
+    if makes_area h then with_segment (segment_of bytes index h) others else others
 
 unfoldable pub segments_of : List ℕ → List Segment
 segments_of bytes = segments_from bytes 0 (program_headers bytes)

@@ -8,7 +8,7 @@ use Rattle.elf_image.specs.declared.rules.ElfErr.TheVariants.{TooLong, NotElf, H
 use Rattle.elf_image.specs.declared.rules.HeaderRule.{HeaderRule}
 use Rattle.elf_image.specs.declared.rules.HeaderRule.TheVariants.{Marked, SegmentSize, SegmentCut, Dynamic, WritableCode, Range}
 use Rattle.elf_image.specs.Header.{is_elf, file_header}
-use Rattle.elf_image.specs.Layout.{load_end}
+use Rattle.elf_image.specs.Layout.{load_end, widened_low, widened_end}
 
 -- the refusal of a rule that is met only where the test holds
 abbrev pub unless : Bool → ElfErr → Option ElfErr
@@ -118,12 +118,12 @@ headers_refusal size headers = first_of (headers_rules size headers)
 
 -- ---- all program headers together
 
--- the byte range in memory, widened outward to multiples of 8
+-- the widened byte range in memory
 abbrev pub range_low : ProgramHeader → ℕ
-range_low h = h.vaddr / 8 * 8
+range_low h = widened_low h.vaddr
 
 abbrev pub range_end : ProgramHeader → ℕ
-range_end h = (h.vaddr + h.memsz + 7) / 8 * 8
+range_end h = widened_end h.vaddr h.memsz
 
 -- how many bytes the areas have together
 abbrev pub area_bytes : List ProgramHeader → ℕ
@@ -137,14 +137,14 @@ memory_refusal headers = unless (nat_le (area_bytes headers) 268435456) (TooMuch
 unfoldable pub meet : ProgramHeader → ProgramHeader → Bool
 meet a b = makes_area a && makes_area b && nat_lt (range_low a) (range_end b) && nat_lt (range_low b) (range_end a)
 
-abbrev pub overlaps : ℕ → Option ℕ → Option ElfErr → Option ElfErr
-overlaps first None later = later
-overlaps first (Some second) later = Some (Overlap first second)
+abbrev pub overlap_or : ℕ → Option ℕ → Option ElfErr → Option ElfErr
+overlap_or first None later = later
+overlap_or first (Some second) later = Some (Overlap first second)
 
 -- the first header that meets a later one, and the first of those
 abbrev pub overlap_from : ℕ → List ProgramHeader → Option ElfErr
 overlap_from index [] = None
-overlap_from index (h ∷ rest) = overlaps index (first_place (meet h) (suc index) rest) (overlap_from (suc index) rest)
+overlap_from index (h ∷ rest) = overlap_or index (first_place (meet h) (suc index) rest) (overlap_from (suc index) rest)
 
 abbrev pub overlap_refusal : List ProgramHeader → Option ElfErr
 overlap_refusal headers = overlap_from 0 headers

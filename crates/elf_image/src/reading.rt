@@ -2,7 +2,7 @@ ghost use Rattle.std.specs.Prelude.{◌≡◌, ◌+◌, ◌*◌, ◌<◌, ◌≤
 ghost use Rattle.elf_image.specs.Header.{program_headers_from, HasHeaders};
 ghost use Rattle.elf_image.specs.Layout.{IsLoadable};
 ghost use Rattle.elf_image.specs.Rules.{first_place, breaks};
-ghost use Rattle.elf_image.specs.Reading.{elf_of, segment_of, placed, segments_from, refusal_of, reading_of, IsReading};
+ghost use Rattle.elf_image.specs.Reading.{elf_of, segment_of, with_segment, segments_from, refusal_of, reading_of, IsReading};
 ghost use Rattle.elf_image.specs.declared.rules.HeaderRule.TheVariants.{SegmentCut};
 ghost use Rattle.elf_image.specs.declared.image.Segment.{Segment as Shown};
 
@@ -83,7 +83,7 @@ fn copy_segment(
 // The place of the first segment that starts above an address.
 fn place_above(segments: &[Segment], vaddr: u64) -> usize
     ensures within { result ≤ length segments.now }
-    ensures placed { (s : Shown) → s.vaddr ≡ vaddr → insert segments.now result s ≡ placed s segments.now }
+    ensures with_segment { (s : Shown) → s.vaddr ≡ vaddr → insert segments.now result s ≡ with_segment s segments.now }
 {
     let mut place = 0;
     while place < segments.len() && segments[place].vaddr <= vaddr {
@@ -94,7 +94,7 @@ fn place_above(segments: &[Segment], vaddr: u64) -> usize
 
 // Puts a segment before the first that starts above it.
 fn insert_segment(segments: &mut Vec<Segment>, segment: Segment) -> Result<(), AllocFailed<Segment>>
-    ensures { OnOk result (segments.new.items ≡ placed segment segments.old.items) }
+    ensures { OnOk result (segments.new.items ≡ with_segment segment segments.old.items) }
 {
     let place = place_above(segments.as_slice(), segment.vaddr);
     segments.insert(place, segment)

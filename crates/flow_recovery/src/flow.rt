@@ -1,6 +1,6 @@
 ghost use Rattle.std.specs.Prelude.{◌≡◌, ℕ};
 ghost use Rattle.elf_image.specs.Layout.{IsLoadable};
-ghost use Rattle.rv64_decode.specs.Row.{shifted, next_pc};
+ghost use Rattle.rv64_decode.specs.Row.{plus_offset, next_pc};
 ghost use Rattle.loop_data.specs.Code.{word_at};
 ghost use Rattle.loop_data.specs.Targets.{before, instr_of, instr_at, asks_exit, targets_by, targets_outside, targets_at, pair_by, pair_at};
 ghost use Rattle.flow_recovery.specs.Flows.{targets_in};
@@ -25,8 +25,8 @@ pub enum Flow {
 }
 
 // An address and a signed number, modulo 2^64.
-fn shifted(at: u64, imm: i32) -> u64
-    ensures { result ≡ shifted at imm }
+fn plus_offset(at: u64, imm: i32) -> u64
+    ensures { result ≡ plus_offset at imm }
 {
     at.wrapping_add_signed(i64::from(imm))
 }
@@ -88,9 +88,9 @@ fn flow_by(instr: &Instr, at: u64, ends: bool, pair: Option<u64>) -> Flow
     ensures { targets_in at result ≡ targets_by instr.now at ends pair }
 {
     match *instr {
-        Instr::Branch { imm, .. } => Flow::Branch(shifted(at, imm)),
+        Instr::Branch { imm, .. } => Flow::Branch(plus_offset(at, imm)),
         Instr::Jal { rd, imm } => {
-            let target = shifted(at, imm);
+            let target = plus_offset(at, imm);
             if rd.number() == 0 {
                 Flow::Jump(target)
             } else {
@@ -153,7 +153,7 @@ fn pair_by(first: &Instr, second: &Instr, at: u64) -> Option<u64>
     if base.number() != rs1.number() {
         return None;
     }
-    let target = shifted(shifted(before(at), high), low);
+    let target = plus_offset(plus_offset(before(at), high), low);
     Some(target - target % 2)
 }
 

@@ -3,7 +3,7 @@ use Rattle.std.proofs.Common.{◌≡◌, ℕ, zero, suc, ◌+◌, ◌-◌, ◌<�
 use Rattle.std.proofs.lemmas.List.{length-set, length-drop, length-take-le, length-append, at_drop_more, append_assoc, take-append-drop, drop-set-lt, set-set, set-get_or}
 use Rattle.std.proofs.Math.Seq.{take-suc-set}
 use Rattle.rv64_decode.specs.Area.{Area, holds, with_byte}
-use Rattle.guest_memory.specs.Layout.{end_of, LieFrom, no_area, nth_area, spliced}
+use Rattle.guest_memory.specs.Layout.{end_of, AreasLieFrom, no_area, nth_area, spliced}
 use Rattle.guest_memory.specs.Spans.{permits, all_permitted, bytes_at, with_bytes_at, all_bytes}
 use Rattle.guest_memory.proofs.Areas.{area_at-nth, byte_at-nth, with_byte-nth, rebytes, LieFrom-set, nth-set}
 
@@ -34,11 +34,11 @@ all_permitted-rest p m (suc n) k zero x y all at h = absurd (omega arith)
 all_permitted-rest p m (suc n) k (suc t) x y all at h =
     all_permitted-rest p m n k t (suc x) y (omega arith) (omega arith) (both_right (permits p m x) (all_permitted p t m (suc x)) h)
 
-pub permits-nth : (p : Area → Bool) (m : List Area) (i x : ℕ) → LieFrom 0 m → i < length m → (nth_area m i).low ≤ x → x < end_of (nth_area m i) → permits p m x ≡ p (nth_area m i)
+pub permits-nth : (p : Area → Bool) (m : List Area) (i x : ℕ) → AreasLieFrom 0 m → i < length m → (nth_area m i).low ≤ x → x < end_of (nth_area m i) → permits p m x ≡ p (nth_area m i)
 permits-nth p m i x lie h l u = let e = area_at-nth 0 m i x lie h l u in rw e refl
 
 -- bytes within an area that has the permission
-pub all_permitted-within : (p : Area → Bool) (m : List Area) (i n k t x y : ℕ) → LieFrom 0 m → i < length m → p (nth_area m i) ≡ true → (nth_area m i).low ≤ x → y ≤ end_of (nth_area m i)
+pub all_permitted-within : (p : Area → Bool) (m : List Area) (i n k t x y : ℕ) → AreasLieFrom 0 m → i < length m → p (nth_area m i) ≡ true → (nth_area m i).low ≤ x → y ≤ end_of (nth_area m i)
     → t ≡ n + k → y ≡ x + n → all_permitted p t m x ≡ all_permitted p k m y
 all_permitted-within p m i zero k t x y lie h has l u all at =
     let here : x ≡ y = omega arith in
@@ -55,7 +55,7 @@ all_permitted-stops p m zero x h e = absurd (omega arith)
 all_permitted-stops p m (suc n) x h e = rw e refl
 
 -- the bytes within an area
-pub bytes_at-nth : (n : ℕ) (m : List Area) (i k x : ℕ) → LieFrom 0 m → i < length m → x ≡ (nth_area m i).low + k → k + n ≤ length (nth_area m i).bytes
+pub bytes_at-nth : (n : ℕ) (m : List Area) (i k x : ℕ) → AreasLieFrom 0 m → i < length m → x ≡ (nth_area m i).low + k → k + n ≤ length (nth_area m i).bytes
     → bytes_at n m x ≡ take n (drop k (nth_area m i).bytes)
 bytes_at-nth zero m i k x lie h at fits = refl
 bytes_at-nth (suc n) m i k x lie h at fits =
@@ -103,7 +103,7 @@ set_each-spliced (b ∷ bs) k xs fits =
     let head : take (suc k) (set xs k b) ≡ take k xs ++ b ∷ [] = take-suc-set xs k b (omega arith) in
     rw (rest, head, tail) (append_assoc (take k xs) (b ∷ []) (bs ++ drop (k + suc (length bs)) xs))
 
-with_bytes_at-each : (bs : List ℕ) (m : List Area) (i k x : ℕ) (a : Area) → nth_area m i ≡ a → LieFrom 0 m → i < length m → x ≡ a.low + k → k + length bs ≤ length a.bytes
+with_bytes_at-each : (bs : List ℕ) (m : List Area) (i k x : ℕ) (a : Area) → nth_area m i ≡ a → AreasLieFrom 0 m → i < length m → x ≡ a.low + k → k + length bs ≤ length a.bytes
     → with_bytes_at m x bs ≡ set m i (rebytes a (set_each k bs a.bytes))
 with_bytes_at-each [] m i k x a is lie h at fits = sym (ap (λ (v : Area). set m i v) (sym is) ∙ set-get_or m i no_area)
 with_bytes_at-each (b ∷ bs) m i k x a is lie h at fits =
@@ -118,7 +118,7 @@ with_bytes_at-each (b ∷ bs) m i k x a is lie h at fits =
     let same : length c ≡ length a.bytes = length-set a.bytes k b in
     let long = length-set m i (rebytes a c) in
     let rest = with_bytes_at-each bs (set m i (rebytes a c)) i (suc k) (suc x) (rebytes a c) (nth-set m i (rebytes a c) h)
-    (LieFrom-set 0 m i (rebytes a c) lie h (sym low) (omega arith)) (omega arith) (omega arith) (omega arith) in
+    (LieFrom-set 0 m i (rebytes a c) lie h (sym low) (omega arith) (ap (λ (v : Area). v.writable && v.executable) (sym is))) (omega arith) (omega arith) (omega arith) in
     rw one (rest ∙ set-set m i (rebytes a c) (rebytes a (set_each (suc k) bs c)))
 
 -- the area with these bytes from an address on
@@ -126,7 +126,7 @@ abbrev pub area_with : Area → ℕ → List ℕ → Area
 area_with a x bs = rebytes a (spliced (x - a.low) bs a.bytes)
 
 -- bytes set within an area
-pub with_bytes_at-nth : (bs : List ℕ) (m : List Area) (i x : ℕ) → LieFrom 0 m → i < length m → (nth_area m i).low ≤ x → x + length bs ≤ end_of (nth_area m i)
+pub with_bytes_at-nth : (bs : List ℕ) (m : List Area) (i x : ℕ) → AreasLieFrom 0 m → i < length m → (nth_area m i).low ≤ x → x + length bs ≤ end_of (nth_area m i)
     → with_bytes_at m x bs ≡ set m i (area_with (nth_area m i) x bs)
 with_bytes_at-nth bs m i x lie h l u =
     let a = nth_area m i in
@@ -135,14 +135,14 @@ with_bytes_at-nth bs m i x lie h l u =
     let b = set_each-spliced bs k a.bytes (omega arith) in
     n ∙ ap (λ (v : List ℕ). set m i (rebytes a v)) b
 
-pub area_with-lie : (bs : List ℕ) (m : List Area) (i x : ℕ) → LieFrom 0 m → i < length m → (nth_area m i).low ≤ x → x + length bs ≤ end_of (nth_area m i)
-    → LieFrom 0 (set m i (area_with (nth_area m i) x bs))
+pub area_with-lie : (bs : List ℕ) (m : List Area) (i x : ℕ) → AreasLieFrom 0 m → i < length m → (nth_area m i).low ≤ x → x + length bs ≤ end_of (nth_area m i)
+    → AreasLieFrom 0 (set m i (area_with (nth_area m i) x bs))
 area_with-lie bs m i x lie h l u =
     let a = nth_area m i in
     let k : ℕ = x - a.low in
     let b = set_each-spliced bs k a.bytes (omega arith) in
     let size : length (spliced k bs a.bytes) ≡ length a.bytes = sym (ap length b) ∙ length-set_each bs k a.bytes in
-    LieFrom-set 0 m i (area_with a x bs) lie h refl size
+    LieFrom-set 0 m i (area_with a x bs) lie h refl size refl
 
 -- a permission that does not read the bytes
 abbrev pub SeesNoByte : (Area → Bool) → Type 0
@@ -194,7 +194,7 @@ set_turn-permitted p m new x n xs blind h e all =
 pub all_bytes-drop : (m : List Area) (i : ℕ) → i < length m → all_bytes (drop i m) ≡ (nth_area m i).bytes ++ all_bytes (drop (i + 1) m)
 all_bytes-drop m i h = at_drop_more all_bytes m i no_area h
 
-pub length-all_bytes : (from : ℕ) (m : List Area) → LieFrom from m → from < 2 ^ 63 → from + length (all_bytes m) < 2 ^ 63
+pub length-all_bytes : (from : ℕ) (m : List Area) → AreasLieFrom from m → from < 2 ^ 63 → from + length (all_bytes m) < 2 ^ 63
 length-all_bytes from [] lie h = omega arith
 length-all_bytes from (a ∷ rest) lie h =
     let e = length-all_bytes (end_of a) rest lie.4 lie.3 in

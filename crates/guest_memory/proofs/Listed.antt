@@ -3,7 +3,7 @@ use Rattle.std.proofs.Common.{◌≡◌, ℕ, zero, suc, ◌+◌, ◌-◌, ◌*�
 use Rattle.std.proofs.lemmas.List.Elements.{All-nil, All-cons, All-append, Contains-append_left, Contains-append_right}
 use Rattle.std.proofs.lemmas.Bool.Decides.{nat_tests}
 use Rattle.rv64_decode.specs.Area.{Area, holds, area_at, number_at}
-use Rattle.guest_memory.specs.Layout.{end_of, LieFrom, nth_area}
+use Rattle.guest_memory.specs.Layout.{end_of, AreasLieFrom, nth_area}
 use Rattle.guest_memory.specs.Words.{if_in_area, word_of, words_from, words_in, words_of_all}
 use Rattle.guest_memory.proofs.Areas.{aligned, area_at-nth, inside_holds}
 
@@ -11,18 +11,18 @@ use Rattle.guest_memory.proofs.Areas.{aligned, area_at-nth, inside_holds}
 abbrev pub IsWordOf : List Area → (ℕ × ℕ) → Type 0
 IsWordOf m w = word_of m w.0 ≡ Some w.1
 
-word-here : (m : List Area) (i x : ℕ) → LieFrom 0 m → i < length m → (nth_area m i).low ≤ x → x < end_of (nth_area m i) → x % 8 ≡ 0 → word_of m x ≡ Some (number_at 8 m x)
+word-here : (m : List Area) (i x : ℕ) → AreasLieFrom 0 m → i < length m → (nth_area m i).low ≤ x → x < end_of (nth_area m i) → x % 8 ≡ 0 → word_of m x ≡ Some (number_at 8 m x)
 word-here m i x lie h l u even =
     let found = area_at-nth 0 m i x lie h l u in
     rw (even, found) refl
 
-words_from-each : (n : ℕ) (m : List Area) (i x : ℕ) → LieFrom 0 m → i < length m → (nth_area m i).low ≤ x → x + 8 * n ≤ end_of (nth_area m i) → x % 8 ≡ 0 → All (IsWordOf m) (words_from n m x)
+words_from-each : (n : ℕ) (m : List Area) (i x : ℕ) → AreasLieFrom 0 m → i < length m → (nth_area m i).low ≤ x → x + 8 * n ≤ end_of (nth_area m i) → x % 8 ≡ 0 → All (IsWordOf m) (words_from n m x)
 words_from-each zero m i x lie h l u even = All-nil (IsWordOf m)
 words_from-each (suc n) m i x lie h l u even =
     All-cons (IsWordOf m) (x, number_at 8 m x) (words_from n m (x + 8)) (word-here m i x lie h l (omega arith) even)
     (words_from-each n m i (x + 8) lie h (omega arith) (omega arith) (omega arith))
 
-words_in-each : (m : List Area) (i : ℕ) → LieFrom 0 m → i < length m → All (IsWordOf m) (words_in m (nth_area m i))
+words_in-each : (m : List Area) (i : ℕ) → AreasLieFrom 0 m → i < length m → All (IsWordOf m) (words_in m (nth_area m i))
 words_in-each m i lie h =
     let a = aligned 0 m i lie h in
     words_from-each (length (nth_area m i).bytes / 8) m i (nth_area m i).low lie h (omega arith) (omega arith) a.low
@@ -33,7 +33,7 @@ words_of_all-each m (a ∷ rest) h =
     All-append (IsWordOf m) (words_in m a) (words_of_all m rest) (h 0 (omega arith)) (words_of_all-each m rest (λ i k. h (suc i) (omega arith)))
 
 -- each word of the list stands in memory
-pub words_of-each : (m : List Area) → LieFrom 0 m → All (IsWordOf m) (words_of_all m m)
+pub words_of-each : (m : List Area) → AreasLieFrom 0 m → All (IsWordOf m) (words_of_all m m)
 words_of-each m lie = words_of_all-each m m (λ i h. words_in-each m i lie h)
 
 Contains-cons : (w v : ℕ × ℕ) (ws : List (ℕ × ℕ)) → Contains ws w → Contains (v ∷ ws) w
@@ -47,7 +47,7 @@ words_from-every (suc n) m zero low x h at =
 words_from-every (suc n) m (suc k) low x h at =
     Contains-cons (x, number_at 8 m x) (low, number_at 8 m low) (words_from n m (low + 8)) (words_from-every n m k (low + 8) x (omega arith) (omega arith))
 
-words_in-every : (m : List Area) (i x : ℕ) → LieFrom 0 m → i < length m → holds (nth_area m i) x ≡ true → x % 8 ≡ 0 → Contains (words_in m (nth_area m i)) (x, number_at 8 m x)
+words_in-every : (m : List Area) (i x : ℕ) → AreasLieFrom 0 m → i < length m → holds (nth_area m i) x ≡ true → x % 8 ≡ 0 → Contains (words_in m (nth_area m i)) (x, number_at 8 m x)
 words_in-every m i x lie h held even =
     let a = aligned 0 m i lie h in
     let inside = inside_holds (nth_area m i) x held in
@@ -70,7 +70,7 @@ place : (m : List Area) (x : ℕ) (b : Area) → area_at m x ≡ Some b → Plac
 place [] x b is = cc
 place (a ∷ rest) x b is = place_step a b rest x (holds a x) refl is (place rest x b)
 
-every_step : (m : List Area) (x n : ℕ) (even : Bool) (found : Option Area) → LieFrom 0 m → (x % 8 == 0) ≡ even → area_at m x ≡ found → cond even (if_in_area found (number_at 8 m x)) None ≡ Some n
+every_step : (m : List Area) (x n : ℕ) (even : Bool) (found : Option Area) → AreasLieFrom 0 m → (x % 8 == 0) ≡ even → area_at m x ≡ found → cond even (if_in_area found (number_at 8 m x)) None ≡ Some n
     → Contains (words_of_all m m) (x, n)
 every_step m x n false found lie e f is = cc
 every_step m x n true None lie e f is = cc
@@ -81,5 +81,5 @@ every_step m x n true (Some b) lie e f is =
     rw (← number) (words_of_all-every m m p.0 (x, number_at 8 m x) p.1 (words_in-every m p.0 x lie p.1 p.2 even))
 
 -- each word of memory is in the list
-pub words_of-every : (m : List Area) (x n : ℕ) → LieFrom 0 m → word_of m x ≡ Some n → Contains (words_of_all m m) (x, n)
+pub words_of-every : (m : List Area) (x n : ℕ) → AreasLieFrom 0 m → word_of m x ≡ Some n → Contains (words_of_all m m) (x, n)
 words_of-every m x n lie is = every_step m x n (x % 8 == 0) (area_at m x) lie refl refl is

@@ -6,7 +6,7 @@ use Rattle.elf_image.specs.declared.image.Elf.{Elf}
 use Rattle.elf_image.specs.Layout.{LieFrom as SegmentsLieFrom, IsLoadable, rounded_low, rounded_end, load_end}
 use Rattle.rv64_decode.specs.Area.{Area}
 use Rattle.guest_memory.specs.Areas.{zeros, segment_area, segment_areas, highest_end, heap_low, heap_size, stack_low, stack_size, data_area, areas_of}
-use Rattle.guest_memory.specs.Layout.{end_of, LieFrom, spliced}
+use Rattle.guest_memory.specs.Layout.{end_of, AreasLieFrom, spliced}
 
 pub length-zeros : (n : ℕ) → length (zeros n) ≡ n
 unfolding zeros
@@ -45,11 +45,11 @@ length-segment_area s p =
     let bytes = p.bytes in
     omega arith
 
-LieFrom-below : (from top : ℕ) (m : List Area) → from ≤ top → LieFrom top m → LieFrom from m
+LieFrom-below : (from top : ℕ) (m : List Area) → from ≤ top → AreasLieFrom top m → AreasLieFrom from m
 LieFrom-below from top [] h lie = tt
-LieFrom-below from top (a ∷ rest) h lie = let l = lie.0 in (omega arith, lie.1, lie.2, lie.3, lie.4)
+LieFrom-below from top (a ∷ rest) h lie = let l = lie.0 in (omega arith, lie.1, lie.2, lie.3, lie.4, lie.5)
 
-segments-lie : (from top : ℕ) (segments : List Segment) (m : List Area) → SegmentsLieFrom from segments → from ≤ top → highest_end segments ≤ top → LieFrom top m → LieFrom from (segment_areas segments ++ m)
+segments-lie : (from top : ℕ) (segments : List Segment) (m : List Area) → SegmentsLieFrom from segments → from ≤ top → highest_end segments ≤ top → AreasLieFrom top m → AreasLieFrom from (segment_areas segments ++ m)
 segments-lie from top [] m lie below high rest = LieFrom-below from top m below rest
 segments-lie from top (s ∷ others) m lie below high rest =
     let p : IsPlaced s = record { bytes = lie.2; end = lie.3 } in
@@ -58,15 +58,15 @@ segments-lie from top (s ∷ others) m lie below high rest =
     let size = length-segment_area s p in
     let ends : rounded_end s ≡ end_of (segment_area s) = omega arith in
     let later = segments-lie (rounded_end s) top others m lie.5 (omega arith) (omega arith) rest in
-    (low, omega arith, omega arith, omega arith, let P : ℕ → Type 0 = λ n. LieFrom n (segment_areas others ++ m) in subst P ends later)
+    (low, omega arith, omega arith, omega arith, let P : ℕ → Type 0 = λ n. AreasLieFrom n (segment_areas others ++ m) in subst P ends later, lie.4)
 
-data-lie : (from low size : ℕ) (m : List Area) → from ≤ low → low % 8 ≡ 0 → size % 8 ≡ 0 → low + size < 2 ^ 63 → LieFrom (low + size) m → LieFrom from (data_area low size ∷ m)
+data-lie : (from low size : ℕ) (m : List Area) → from ≤ low → low % 8 ≡ 0 → size % 8 ≡ 0 → low + size < 2 ^ 63 → AreasLieFrom (low + size) m → AreasLieFrom from (data_area low size ∷ m)
 data-lie from low size m below even length_even fits rest =
     let long = length-zeros size in
-    (below, even, rw long length_even, rw long fits, rw long rest)
+    (below, even, rw long length_even, rw long fits, rw long rest, refl)
 
 -- the areas of an executable lie as those of a memory
-pub areas-lie : (elf : Elf) → IsLoadable elf → LieFrom 0 (areas_of elf)
+pub areas-lie : (elf : Elf) → IsLoadable elf → AreasLieFrom 0 (areas_of elf)
 areas-lie elf is =
     let high = highest_end-le 0 elf.segments is.apart in
     let stack = data-lie (heap_low elf.segments + heap_size) stack_low stack_size [] (omega arith) (omega arith) (omega arith) (omega arith) tt in

@@ -6,7 +6,7 @@ use Rattle.rv64_decode.specs.declared.memory.Width.TheVariants.{Eight}
 use Rattle.rv64_decode.specs.declared.memory.MemFault.{MemFault}
 use Rattle.rv64_decode.specs.declared.memory.MemFault.TheVariants.{Misaligned}
 use Rattle.byteorder.specs.Endian.{little_number}
-use Rattle.guest_memory.specs.Layout.{end_of, LieFrom, nth_area, IsPlace, IsRefused}
+use Rattle.guest_memory.specs.Layout.{end_of, AreasLieFrom, nth_area, IsPlace, IsRefused}
 use Rattle.guest_memory.specs.Words.{if_in_area, word_of, words_from, words_of_all}
 use Rattle.guest_memory.proofs.Areas.{aligned, area_at-nth, number_at-place}
 
@@ -24,7 +24,7 @@ pub answered : (m : List Area) (x : ℕ) (r : Result ℕ MemFault) → IfErr r (
 answered m x (Ok i) h some = refl
 answered m x (Err fault) h some = let none : IsSome {T = ℕ} None = rw (word-refused m x fault h) at some in cc
 
-pub word-place : (m : List Area) (i x : ℕ) → LieFrom 0 m → IsPlace m i x Eight → word_of m x ≡ Some (little_number 8 (drop (x - (nth_area m i).low) (nth_area m i).bytes))
+pub word-place : (m : List Area) (i x : ℕ) → AreasLieFrom 0 m → IsPlace m i x Eight → word_of m x ≡ Some (little_number 8 (drop (x - (nth_area m i).low) (nth_area m i).bytes))
 word-place m i x lie p =
     let even = p.aligned in
     let fits = p.fits in
@@ -37,7 +37,7 @@ pub words_turn : (m : List Area) (x n k number : ℕ) (before : List (ℕ × ℕ
 words_turn m x n k number before more e = rw (more, e) (append_assoc before ((x, number_at 8 m x) ∷ []) (words_from k m (x + 8)))
 
 -- the place of a word in an area
-pub word_place : (m : List Area) (i x : ℕ) → LieFrom 0 m → i < length m → (nth_area m i).low ≤ x → x < end_of (nth_area m i) → x % 8 ≡ 0 → IsPlace m i x Eight
+pub word_place : (m : List Area) (i x : ℕ) → AreasLieFrom 0 m → i < length m → (nth_area m i).low ≤ x → x < end_of (nth_area m i) → x % 8 ≡ 0 → IsPlace m i x Eight
 word_place m i x lie h l u even =
     let a = aligned 0 m i lie h in
     record { within = h; aligned = even; low = l; fits = omega arith }

@@ -1,5 +1,5 @@
--- How areas lie: ascending, apart, and at multiples of 8.
-use Rattle.std.specs.Prelude.{ℕ, ◌≡◌, ◌+◌, ◌%◌, ◌^◌, ◌<◌, ◌≤◌, List, [], ◌∷◌, ◌++◌, length, take, drop, get_or, Bool, false, Some}
+-- How areas lie: ascending, apart, and at multiples of 8; and what of them stays.
+use Rattle.std.specs.Prelude.{ℕ, ◌≡◌, ◌+◌, ◌%◌, ◌^◌, ◌<◌, ◌≤◌, List, [], ◌∷◌, ◌++◌, length, take, drop, get_or, Bool, false, ◌&&◌, Some}
 use Rattle.rv64_decode.specs.Area.{Area, bytes_of, why}
 use Rattle.rv64_decode.specs.declared.memory.Width.{Width}
 use Rattle.rv64_decode.specs.declared.memory.MemFault.{MemFault}
@@ -8,11 +8,12 @@ use Rattle.byteorder.specs.Endian.{little_bytes}
 abbrev pub end_of : Area → ℕ
 end_of a = a.low + length a.bytes
 
--- the areas lie from this address on, one after another
-abbrev pub LieFrom : ℕ → List Area → Type 0
-LieFrom from [] = Unit {0}
-LieFrom from (a ∷ rest) =
-    (from ≤ a.low) × (a.low % 8 ≡ 0) × (length a.bytes % 8 ≡ 0) × (end_of a < 2 ^ 63) × LieFrom (end_of a) rest
+-- the areas lie from this address on, one after another, and none may be both written and executed
+abbrev pub AreasLieFrom : ℕ → List Area → Type 0
+AreasLieFrom from [] = Unit {0}
+AreasLieFrom from (a ∷ rest) =
+    (from ≤ a.low) × (a.low % 8 ≡ 0) × (length a.bytes % 8 ≡ 0) × (end_of a < 2 ^ 63) × AreasLieFrom (end_of a) rest
+    × ((a.writable && a.executable) ≡ false)
 
 -- no area: what a look past the end gives
 abbrev pub no_area : Area
@@ -39,3 +40,12 @@ pub record IsPlace (m : List Area) (i addr : ℕ) (width : Width) : Type 0 where
 -- whatever permission is wanted, the access is refused for this reason
 abbrev pub IsRefused : List Area → ℕ → Width → MemFault → Type 0
 IsRefused m addr width fault = (permission : Area → Bool) → why permission m addr width ≡ Some fault
+
+-- the areas and their permissions stay, and the bytes of those that may not be written
+abbrev pub KeepAreas : List Area → List Area → Type 0
+KeepAreas [] [] = Unit {0}
+KeepAreas [] (b ∷ new) = ⊥
+KeepAreas (a ∷ old) [] = ⊥
+KeepAreas (a ∷ old) (b ∷ new) =
+    (b.low ≡ a.low) × (b.readable ≡ a.readable) × (b.writable ≡ a.writable) × (b.executable ≡ a.executable)
+    × (length b.bytes ≡ length a.bytes) × (a.writable ≡ false → b.bytes ≡ a.bytes) × KeepAreas old new

@@ -1,14 +1,14 @@
 ghost use Rattle.std.specs.Prelude.{◌≡◌, ◌+◌, ◌<◌, ◌^◌, length, true, IsSome, IfOk, IfErr, IfSome, IsNone};
 ghost use Rattle.rv64_decode.specs.Area.{bytes_of, holds, area_at, load_of, fetch_of, store_of, after_store, with_number};
-ghost use Rattle.guest_memory.specs.Layout.{LieFrom, nth_area, IsPlace, IsRefused};
+ghost use Rattle.guest_memory.specs.Layout.{AreasLieFrom, nth_area, IsPlace, IsRefused};
 ghost use Rattle.guest_memory.specs.Words.{word_of};
 
-use crate::piece::Piece;
+use crate::area::GuestArea;
 use rv64_decode::{MemFault, Width};
 
 // The place of the area that holds an address, by a binary search.
-pub(crate) fn search_for(areas: &[Piece], addr: u64) -> Option<usize>
-    requires { LieFrom 0 areas.now }
+pub(crate) fn search_for(areas: &[GuestArea], addr: u64) -> Option<usize>
+    requires { AreasLieFrom 0 areas.now }
     ensures found { IfSome result (λ i. (i < length areas.now) × (holds (nth_area areas.now i) addr ≡ true)) }
     ensures none { IsNone result → area_at areas.now addr ≡ None }
 {
@@ -30,8 +30,8 @@ pub(crate) fn search_for(areas: &[Piece], addr: u64) -> Option<usize>
 }
 
 // The same, where the area that answered last is tried first.
-pub(crate) fn find(areas: &[Piece], last: usize, addr: u64) -> Option<usize>
-    requires { LieFrom 0 areas.now }
+pub(crate) fn find(areas: &[GuestArea], last: usize, addr: u64) -> Option<usize>
+    requires { AreasLieFrom 0 areas.now }
     ensures found { IfSome result (λ i. (i < length areas.now) × (holds (nth_area areas.now i) addr ≡ true)) }
     ensures none { IsNone result → area_at areas.now addr ≡ None }
 {
@@ -44,12 +44,12 @@ pub(crate) fn find(areas: &[Piece], last: usize, addr: u64) -> Option<usize>
 
 // The place of the area in which an access lies, or why it lies in none.
 pub(crate) fn place_of(
-    areas: &[Piece],
+    areas: &[GuestArea],
     last: usize,
     addr: u64,
     width: Width,
 ) -> Result<usize, MemFault>
-    requires { LieFrom 0 areas.now }
+    requires { AreasLieFrom 0 areas.now }
     ensures placed { IfOk result (λ i. IsPlace areas.now i addr width) }
     ensures refused { IfErr result (λ fault. IsRefused areas.now addr width fault) }
 {
@@ -64,12 +64,12 @@ pub(crate) fn place_of(
 
 // What a load answers.
 pub(crate) fn peek_from(
-    areas: &[Piece],
+    areas: &[GuestArea],
     last: usize,
     addr: u64,
     width: Width,
 ) -> Result<u64, MemFault>
-    requires { LieFrom 0 areas.now }
+    requires { AreasLieFrom 0 areas.now }
     ensures answer { result ≡ load_of areas.now addr width }
     ensures fits { IfOk result (λ n. n < 256 ^ bytes_of width) }
 {
@@ -79,12 +79,12 @@ pub(crate) fn peek_from(
 
 // What a load answers; the area is the one to be tried first from now on.
 pub(crate) fn load_from(
-    areas: &[Piece],
+    areas: &[GuestArea],
     last: &mut usize,
     addr: u64,
     width: Width,
 ) -> Result<u64, MemFault>
-    requires { LieFrom 0 areas.now }
+    requires { AreasLieFrom 0 areas.now }
     ensures answer { result ≡ load_of areas.now addr width }
     ensures fits { IfOk result (λ n. n < 256 ^ bytes_of width) }
 {
@@ -94,8 +94,8 @@ pub(crate) fn load_from(
 }
 
 // What a load from an area answers.
-fn load_at(areas: &[Piece], i: usize, addr: u64, width: Width) -> Result<u64, MemFault>
-    requires lie { LieFrom 0 areas.now }
+fn load_at(areas: &[GuestArea], i: usize, addr: u64, width: Width) -> Result<u64, MemFault>
+    requires lie { AreasLieFrom 0 areas.now }
     requires place { IsPlace areas.now i addr width }
     ensures answer { result ≡ load_of areas.now addr width }
     ensures fits { IfOk result (λ n. n < 256 ^ bytes_of width) }
@@ -108,8 +108,8 @@ fn load_at(areas: &[Piece], i: usize, addr: u64, width: Width) -> Result<u64, Me
 }
 
 // The word at an address, whatever the permission.
-pub(crate) fn word_from(areas: &[Piece], last: usize, addr: u64) -> Option<u64>
-    requires { LieFrom 0 areas.now }
+pub(crate) fn word_from(areas: &[GuestArea], last: usize, addr: u64) -> Option<u64>
+    requires { AreasLieFrom 0 areas.now }
     ensures { result ≡ word_of areas.now addr }
 {
     match place_of(areas, last, addr, Width::Eight) {
@@ -119,11 +119,11 @@ pub(crate) fn word_from(areas: &[Piece], last: usize, addr: u64) -> Option<u64>
 }
 
 // Sets the word at an address.
-pub(crate) fn set_word_in(areas: &mut [Piece], last: usize, addr: u64, value: u64)
-    requires lie { LieFrom 0 areas.old }
+pub(crate) fn set_word_in(areas: &mut [GuestArea], last: usize, addr: u64, value: u64)
+    requires lie { AreasLieFrom 0 areas.old }
     requires there { IsSome (word_of areas.old addr) }
     ensures after { areas.new ≡ with_number 8 areas.old addr value }
-    ensures lie { LieFrom 0 areas.new }
+    ensures lie { AreasLieFrom 0 areas.new }
 {
     let i = place_of(areas, last, addr, Width::Eight).unwrap();
     areas[i].set_number(addr, Width::Eight, value);
@@ -131,16 +131,16 @@ pub(crate) fn set_word_in(areas: &mut [Piece], last: usize, addr: u64, value: u6
 
 // Makes a store that is not refused; the area is the one to be tried first from now on.
 pub(crate) fn store_to(
-    areas: &mut [Piece],
+    areas: &mut [GuestArea],
     last: &mut usize,
     addr: u64,
     width: Width,
     value: u64,
 ) -> Result<(), MemFault>
-    requires { LieFrom 0 areas.old }
+    requires { AreasLieFrom 0 areas.old }
     ensures answer { result ≡ store_of areas.old addr width }
     ensures after { areas.new ≡ after_store areas.old addr width value }
-    ensures lie { LieFrom 0 areas.new }
+    ensures lie { AreasLieFrom 0 areas.new }
 {
     let i = place_of(areas, *last, addr, width)?;
     *last = i;
@@ -152,8 +152,8 @@ pub(crate) fn store_to(
 }
 
 // What a fetch answers.
-pub(crate) fn fetch_from(areas: &[Piece], code: usize, addr: u64) -> Result<u32, MemFault>
-    requires { LieFrom 0 areas.now }
+pub(crate) fn fetch_from(areas: &[GuestArea], code: usize, addr: u64) -> Result<u32, MemFault>
+    requires { AreasLieFrom 0 areas.now }
     ensures { result ≡ fetch_of areas.now addr }
 {
     let i = place_of(areas, code, addr, Width::Four)?;

@@ -1,11 +1,11 @@
-ghost use Rattle.std.specs.Prelude.{◌≡◌, ◌⊎◌, ◌+◌, ◌-◌, ◌<◌, ◌≤◌, ◌^◌, ◌++◌, ℕ, List, length, take, true, Some, IsSome, IfOk, All, Contains};
-ghost use Rattle.rv64_decode.specs.Area.{bytes_of, readable_of, writable_of, load_of, fetch_of, with_number};
-ghost use Rattle.guest_memory.specs.Layout.{LieFrom};
+ghost use Rattle.std.specs.Prelude.{◌≡◌, ◌⊎◌, ◌+◌, ◌-◌, ◌<◌, ◌≤◌, ◌^◌, ◌++◌, ℕ, List, length, take, min, true, Some, IsSome, IfOk, All, Contains};
+ghost use Rattle.rv64_decode.specs.Area.{Area as Shown, area_at, bytes_of, readable_of, writable_of, load_of, fetch_of, with_number};
+ghost use Rattle.guest_memory.specs.Layout.{AreasLieFrom, end_of};
 ghost use Rattle.guest_memory.specs.Spans.{permits, all_permitted, bytes_at, with_bytes_at, all_bytes};
 ghost use Rattle.guest_memory.specs.Words.{word_of, words_of};
 
 use crate::lookup::{fetch_from, load_from, peek_from, set_word_in, store_to, word_from};
-use crate::piece::{Access, Piece};
+use crate::area::{Access, GuestArea};
 use crate::spans::{allows_all, dump_of, piece_of, set_span, words_from};
 use rv64_decode::{MemFault, Width, Words};
 use std::alloc::{AllocError, Global};
@@ -14,7 +14,7 @@ use std::marker::Model;
 /// The guest's memory: areas of bytes with permissions, apart and in address order.
 #[derive(Drop)]
 pub struct Memory {
-    areas: Vec<Piece>,
+    areas: Vec<GuestArea>,
     // The areas that are tried first: at a load or a store, and at a fetch.
     last: usize,
     code: usize,
@@ -22,20 +22,26 @@ pub struct Memory {
 
 impl Model for Memory {
     ghost use Rattle.rv64_decode.specs.Area.{Area};
-    ghost use Rattle.guest_memory.specs.Layout.{LieFrom};
+    ghost use Rattle.guest_memory.specs.Layout.{AreasLieFrom};
     ghost use Rattle.std.specs.Prelude.{List};
 
     ghost Value = { List Area };
 
     ghost view = { λ m. m.areas.items };
 
-    ghost invariant = { λ m. LieFrom 0 m.areas.items };
+    ghost invariant = { λ m. AreasLieFrom 0 m.areas.items };
 }
+
+// Areas that lie so do.
+fn these_lie(_areas: &[GuestArea])
+    requires { AreasLieFrom 0 _areas.now }
+    ensures { AreasLieFrom 0 _areas.now }
+{}
 
 impl Memory {
     // The memory of these areas, of which one, `code`, is tried first at a fetch.
-    pub(crate) fn new(areas: Vec<Piece>, code: usize) -> Memory
-        requires { LieFrom 0 areas.items }
+    pub(crate) fn new(areas: Vec<GuestArea>, code: usize) -> Memory
+        requires { AreasLieFrom 0 areas.items }
         ensures { result ≡ areas.items }
     {
         Memory {
@@ -43,6 +49,14 @@ impl Memory {
             last: 0,
             code,
         }
+    }
+
+    /// How the areas of every memory lie: in address order and apart, and none may be both written and
+    /// executed.
+    pub fn lies(&self)
+        ensures { AreasLieFrom 0 self.now }
+    {
+        these_lie(self.areas.as_slice());
     }
 
     /// The instruction word at an address.
@@ -99,7 +113,8 @@ impl Memory {
         ensures value { result ≡ all_permitted readable_of len self.now addr }
         ensures fits { result ≡ true → addr + len < 2 ^ 64 }
         ensures each { result ≡ true → (k : ℕ) → k < len → permits readable_of self.now (addr + k) ≡ true }
-        ensures rest { result ≡ true → (k : ℕ) → k ≤ len → all_permitted readable_of (len - k) self.now (addr + k) ≡ true }
+        ensures rest { result ≡ true → (k : ℕ) → k ≤ len
+            → all_permitted readable_of (len - k) self.now (addr + k) ≡ true }
     {
         allows_all(self.areas.as_slice(), self.last, Access::Read, addr, len)
     }
@@ -110,7 +125,8 @@ impl Memory {
         ensures value { result ≡ all_permitted writable_of len self.now addr }
         ensures fits { result ≡ true → addr + len < 2 ^ 64 }
         ensures each { result ≡ true → (k : ℕ) → k < len → permits writable_of self.now (addr + k) ≡ true }
-        ensures rest { result ≡ true → (k : ℕ) → k ≤ len → all_permitted writable_of (len - k) self.now (addr + k) ≡ true }
+        ensures rest { result ≡ true → (k : ℕ) → k ≤ len
+            → all_permitted writable_of (len - k) self.now (addr + k) ≡ true }
     {
         allows_all(self.areas.as_slice(), self.last, Access::Write, addr, len)
     }
@@ -122,10 +138,14 @@ impl Memory {
         ensures bytes { result.now ≡ bytes_at (length result.now) self.now addr }
         ensures some { 0 < length result.now }
         ensures within { length result.now ≤ most }
+        ensures whole { (a : Shown) → area_at self.now addr ≡ Some a
+            → length result.now ≡ min most (end_of a - addr) }
 
         // The bytes behind them, and behind a part of them.
-        ensures front { (k : ℕ) → bytes_at (length result.now + k) self.now addr ≡ result.now ++ bytes_at k self.now (addr + length result.now) }
-        ensures part { (j k : ℕ) → j ≤ length result.now → bytes_at (j + k) self.now addr ≡ take j result.now ++ bytes_at k self.now (addr + j) }
+        ensures front { (k : ℕ) → bytes_at (length result.now + k) self.now addr
+            ≡ result.now ++ bytes_at k self.now (addr + length result.now) }
+        ensures part { (j k : ℕ) → j ≤ length result.now
+            → bytes_at (j + k) self.now addr ≡ take j result.now ++ bytes_at k self.now (addr + j) }
     {
         piece_of(self.areas.as_slice(), self.last, addr, most)
     }
@@ -137,7 +157,8 @@ impl Memory {
         ensures writable { (n x : ℕ) → all_permitted writable_of n self.new x ≡ all_permitted writable_of n self.old x }
 
         // Further bytes behind them.
-        ensures more { (ys : List ℕ) → with_bytes_at self.new (addr + length bytes.now) ys ≡ with_bytes_at self.old addr (bytes.now ++ ys) }
+        ensures more { (ys : List ℕ) → with_bytes_at self.new (addr + length bytes.now) ys
+            ≡ with_bytes_at self.old addr (bytes.now ++ ys) }
     {
         set_span(self.areas.as_mut_slice(), self.last, addr, bytes)
     }

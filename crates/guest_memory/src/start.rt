@@ -4,7 +4,7 @@ ghost use Rattle.guest_memory.specs.Areas.{zeros, segment_area, data_area, areas
 
 use crate::lookup::search_for;
 use crate::memory::Memory;
-use crate::piece::Piece;
+use crate::area::GuestArea;
 use elf_image::{Elf, Segment};
 use std::alloc::{AllocError, Global};
 
@@ -56,12 +56,12 @@ fn zero_bytes(alloc: Global, n: u64) -> Result<Vec<u8>, AllocError>
 }
 
 // An area of zero bytes that may be read and written.
-fn zero_area(alloc: Global, low: u64, size: u64) -> Result<Piece, AllocError>
+fn zero_area(alloc: Global, low: u64, size: u64) -> Result<GuestArea, AllocError>
     requires { low + size < 2 ^ 63 }
     ensures { IfOk result (λ area. area ≡ data_area low size) }
 {
     let bytes = zero_bytes(alloc, size)?;
-    Ok(Piece::new(low, true, true, false, bytes))
+    Ok(GuestArea::new(low, true, true, false, bytes))
 }
 
 // The first address of a segment's widened byte range.
@@ -80,7 +80,7 @@ fn end_of(segment: &Segment) -> u64
 }
 
 // The area of a segment.
-fn load_area(alloc: Global, segment: &Segment) -> Result<Piece, AllocError>
+fn load_area(alloc: Global, segment: &Segment) -> Result<GuestArea, AllocError>
     requires bytes { length segment.now.bytes ≤ segment.now.memsz }
     requires end { segment.now.vaddr + segment.now.memsz ≤ load_end }
     ensures { IfOk result (λ area. area ≡ segment_area segment.now) }
@@ -90,7 +90,7 @@ fn load_area(alloc: Global, segment: &Segment) -> Result<Piece, AllocError>
     let writable = segment.flags / 2 % 2 == 1;
     let executable = segment.flags % 2 == 1;
     let bytes = zero_bytes(alloc, end_of(segment) - low)?;
-    let mut area = Piece::new(low, readable, writable, executable, bytes);
+    let mut area = GuestArea::new(low, readable, writable, executable, bytes);
     area.set_bytes(segment.vaddr, segment.bytes.as_slice());
     Ok(area)
 }

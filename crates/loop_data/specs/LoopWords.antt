@@ -2,7 +2,7 @@
 use Rattle.std.specs.Prelude.{ℕ, ◌≡◌, ◌≤◌, ◌↔◌, ◌%◌, true, List, [], ◌∷◌, length, Some}
 use Rattle.std.specs.List.{Contains}
 use Rattle.std.specs.List.Sorted.{IsStrictlyIncreasing}
-use Rattle.rv64_decode.specs.Row.{shifted, next_pc}
+use Rattle.rv64_decode.specs.Row.{plus_offset, next_pc}
 use Rattle.rv64_decode.specs.declared.instr.Instr.{Instr}
 use Rattle.rv64_decode.specs.declared.instr.Instr.TheVariants.{Branch, Jal, Jalr, Ecall, Ebreak}
 use Rattle.loop_data.specs.declared.graph.Graph.{Graph}
@@ -13,8 +13,8 @@ use Rattle.loop_data.specs.Nests.{has, Among, nest_of, IsNest}
 
 -- the words to which an instruction leads in a loop
 abbrev pub next_words : Instr → ℕ → List ℕ
-next_words (Branch op rs1 rs2 imm) pc = next_pc pc ∷ shifted pc imm ∷ []
-next_words (Jal rd imm) pc = shifted pc imm ∷ []
+next_words (Branch op rs1 rs2 imm) pc = next_pc pc ∷ plus_offset pc imm ∷ []
+next_words (Jal rd imm) pc = plus_offset pc imm ∷ []
 next_words (Jalr rd rs1 imm) pc = []
 next_words Ecall pc = []
 next_words Ebreak pc = []

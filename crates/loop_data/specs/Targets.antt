@@ -3,7 +3,7 @@
 use Rattle.std.specs.Prelude.{ℕ, ◌==◌, ◌+◌, ◌-◌, ◌/◌, ◌%◌, ◌^◌, Bool, false, ◌&&◌, ◌||◌, not, if◌then◌else◌, List, [], ◌∷◌, ◌++◌, Option, Some, None, pos}
 use Rattle.std.specs.Ordering.{int_eq}
 use Rattle.rv64_decode.specs.Table.{decoded}
-use Rattle.rv64_decode.specs.Row.{shifted, next_pc}
+use Rattle.rv64_decode.specs.Row.{plus_offset, next_pc}
 use Rattle.rv64_decode.specs.declared.instr.ImmOp.TheVariants.{Addi}
 use Rattle.rv64_decode.specs.declared.instr.UpperOp.TheVariants.{Auipc}
 use Rattle.rv64_decode.specs.declared.instr.Instr.{Instr}
@@ -73,8 +73,8 @@ asks_exit _ = false
 -- where an instruction leads. `ends` says that an ecall ends the program, and `pair` is the target of
 -- a jalr that is known from an auipc before it
 abbrev pub targets_by : Instr → ℕ → Bool → Option ℕ → Targets
-targets_by (Branch op rs1 rs2 imm) at ends pair = steps_to (each_once (next_pc at) (shifted at imm))
-targets_by (Jal rd imm) at ends pair = jump_from rd at (shifted at imm)
+targets_by (Branch op rs1 rs2 imm) at ends pair = steps_to (each_once (next_pc at) (plus_offset at imm))
+targets_by (Jal rd imm) at ends pair = jump_from rd at (plus_offset at imm)
 targets_by (Jalr rd rs1 imm) at ends (Some target) = jump_from rd at target
 targets_by (Jalr rd rs1 imm) at ends None = if rd == 0 then nowhere else on_from at
 targets_by Ecall at ends pair = if ends then nowhere else on_from at
@@ -103,7 +103,7 @@ targets_at elf pair at = targets_from (word_at elf at) at (asks_exit (instr_at e
 -- sum of the auipc's address and both immediates, with bit 0 cleared
 abbrev pub pair_by : Instr → Instr → ℕ → Option ℕ
 pair_by (Upper Auipc base high) (Jalr rd rs1 low) at =
-    let target = shifted (shifted (before at) high) low in if base == rs1 then Some (target - target % 2) else None
+    let target = plus_offset (plus_offset (before at) high) low in if base == rs1 then Some (target - target % 2) else None
 pair_by _ _ at = None
 
 abbrev pub pair_of : Option Instr → Option Instr → ℕ → Option ℕ

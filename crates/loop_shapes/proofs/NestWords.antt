@@ -5,7 +5,7 @@ use Rattle.std.specs.List.{Contains}
 use Rattle.std.proofs.lemmas.Bool.Decides.{nat_tests}
 use Rattle.std.proofs.lemmas.Bool.{cases_eq}
 use Rattle.rv64_decode.specs.Table.{decoded}
-use Rattle.rv64_decode.specs.Row.{shifted, next_pc}
+use Rattle.rv64_decode.specs.Row.{plus_offset, next_pc}
 use Rattle.rv64_decode.specs.declared.instr.Instr.{Instr}
 use Rattle.rv64_decode.specs.declared.instr.Instr.TheVariants.{Alu, AluImm, Upper, Load, Store, Branch, Jal, Jalr, Fence, Ecall, Ebreak}
 use Rattle.elf_image.specs.declared.image.Elf.{Elf}
@@ -49,12 +49,12 @@ jump_steps : (rd at t : ℕ) → rd ≡ 0 → (if rd == 0 then steps_to (t ∷ [
 jump_steps rd at t e = let q : (rd == 0) ≡ true = grind (arith, nat_tests) in ap (λ b. (if b then steps_to (t ∷ []) else call_from at t).steps) q
 
 steps_forth : (i : Instr) (at : ℕ) (ends : Bool) (q : Option ℕ) (v : ℕ) → IsPlainInstr i → In (targets_by i at ends q).steps v → In (next_words i at) v
-steps_forth (Branch op rs1 rs2 imm) at ends q v d i = by (in_each (next_pc at) (shifted at imm) v i)
+steps_forth (Branch op rs1 rs2 imm) at ends q v d i = by (in_each (next_pc at) (plus_offset at imm) v i)
   where
-    by : (v ≡ next_pc at) ⊎ (v ≡ shifted at imm) → In (next_pc at ∷ shifted at imm ∷ []) v
+    by : (v ≡ next_pc at) ⊎ (v ≡ plus_offset at imm) → In (next_pc at ∷ plus_offset at imm ∷ []) v
     by (inl e) = inl (sym e)
     by (inr e) = inr (inl (sym e))
-steps_forth (Jal rd imm) at ends q v d i = subst (λ (xs : List ℕ). In xs v) (jump_steps rd at (shifted at imm) d) i
+steps_forth (Jal rd imm) at ends q v d i = subst (λ (xs : List ℕ). In xs v) (jump_steps rd at (plus_offset at imm) d) i
 steps_forth (Jalr rd rs1 imm) at ends q v d i = absurd d
 steps_forth Ecall at ends q v d i = absurd d
 steps_forth Ebreak at ends q v d i = absurd d
@@ -66,10 +66,10 @@ steps_forth (Store op rs1 rs2 imm) at ends q v d i = i
 steps_forth (Fence rd rs1 imm) at ends q v d i = i
 
 steps_back : (i : Instr) (at : ℕ) (ends : Bool) (q : Option ℕ) (v : ℕ) → IsPlainInstr i → In (next_words i at) v → In (targets_by i at ends q).steps v
-steps_back (Branch op rs1 rs2 imm) at ends q v d (inl e) = each_in (next_pc at) (shifted at imm) v (inl (sym e))
-steps_back (Branch op rs1 rs2 imm) at ends q v d (inr (inl e)) = each_in (next_pc at) (shifted at imm) v (inr (sym e))
+steps_back (Branch op rs1 rs2 imm) at ends q v d (inl e) = each_in (next_pc at) (plus_offset at imm) v (inl (sym e))
+steps_back (Branch op rs1 rs2 imm) at ends q v d (inr (inl e)) = each_in (next_pc at) (plus_offset at imm) v (inr (sym e))
 steps_back (Branch op rs1 rs2 imm) at ends q v d (inr (inr i)) = absurd i
-steps_back (Jal rd imm) at ends q v d i = subst (λ (xs : List ℕ). In xs v) (sym (jump_steps rd at (shifted at imm) d)) i
+steps_back (Jal rd imm) at ends q v d i = subst (λ (xs : List ℕ). In xs v) (sym (jump_steps rd at (plus_offset at imm) d)) i
 steps_back (Jalr rd rs1 imm) at ends q v d i = absurd d
 steps_back Ecall at ends q v d i = absurd d
 steps_back Ebreak at ends q v d i = absurd d

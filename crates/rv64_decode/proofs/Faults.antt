@@ -3,7 +3,7 @@ use Rattle.std.proofs.Common.{◌≡◌, ◌==◌, ℕ, ◌-◌, ◌%◌, if◌t
 use Rattle.rv64_decode.specs.Area.{Area, load_of, why, or_refusal, unless_refused, writable_of, with_number, bytes_of}
 use Rattle.rv64_decode.specs.Ask.{after, without_number}
 use Rattle.rv64_decode.specs.Registers.{register, with_register}
-use Rattle.rv64_decode.specs.Row.{asks, outcome, Outcome, onward, jump, loaded, stored, shifted, taken, store_width, load_width, next_pc}
+use Rattle.rv64_decode.specs.Row.{asks, outcome, Outcome, onward, jump, loaded, stored, plus_offset, taken, store_width, load_width, next_pc}
 use Rattle.rv64_decode.specs.declared.memory.MemFault.{MemFault}
 use Rattle.rv64_decode.specs.declared.outcome.Fault.{Fault}
 use Rattle.rv64_decode.specs.declared.outcome.Next.TheVariants.{Fault as Faulting}
@@ -43,15 +43,15 @@ outcome_fault (Alu op rd rs1 rs2) pc regs m kind at e = cc
 outcome_fault (AluImm op rd rs1 imm) pc regs m kind at e = cc
 outcome_fault (Upper op rd imm) pc regs m kind at e = cc
 outcome_fault (Load op rd rs1 imm) pc regs m kind at e =
-    loaded_fault op rd (shifted (register regs rs1) imm) pc regs m (load_of m (shifted (register regs rs1) imm) (load_width op)) kind at e
+    loaded_fault op rd (plus_offset (register regs rs1) imm) pc regs m (load_of m (plus_offset (register regs rs1) imm) (load_width op)) kind at e
 outcome_fault (Store op rs1 rs2 imm) pc regs m kind at e =
-    let addr = shifted (register regs rs1) imm in
+    let addr = plus_offset (register regs rs1) imm in
     stored_fault addr pc regs m (with_number (bytes_of (store_width op)) m addr (register regs rs2)) (why writable_of m addr (store_width op)) kind at e
 outcome_fault (Branch op rs1 rs2 imm) pc regs m kind at e =
-    branched_fault (shifted pc imm) pc regs m (taken op (register regs rs1) (register regs rs2)) kind at e
-outcome_fault (Jal rd imm) pc regs m kind at e = jumped_fault (shifted pc imm) regs (with_register regs rd (next_pc pc)) m _ kind at refl e
+    branched_fault (plus_offset pc imm) pc regs m (taken op (register regs rs1) (register regs rs2)) kind at e
+outcome_fault (Jal rd imm) pc regs m kind at e = jumped_fault (plus_offset pc imm) regs (with_register regs rd (next_pc pc)) m _ kind at refl e
 outcome_fault (Jalr rd rs1 imm) pc regs m kind at e =
-    let sum = shifted (register regs rs1) imm in
+    let sum = plus_offset (register regs rs1) imm in
     jumped_fault (sum - sum % 2) regs (with_register regs rd (next_pc pc)) m _ kind at refl e
 outcome_fault (Fence rd rs1 imm) pc regs m kind at e = cc
 outcome_fault Ecall pc regs m kind at e = cc

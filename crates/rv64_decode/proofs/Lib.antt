@@ -1,3 +1,5 @@
 pub mod Rows
 pub mod Decodes
 pub mod Faults
+pub mod Fields
+pub mod Sound

@@ -26,3 +26,9 @@ abbrev pub after : List Area → Ask → List Area
 after m Nothing = m
 after m (Loads addr width) = m
 after m (Stores addr width value) = after_store m addr width value
+
+-- an access is allowed; where nothing is asked, nothing is wanted
+abbrev pub IsAllowed : (Ask → Type 0) → Ask → Type 0
+IsAllowed allows Nothing = Unit {0}
+IsAllowed allows (Loads addr width) = allows (Loads addr width)
+IsAllowed allows (Stores addr width value) = allows (Stores addr width value)

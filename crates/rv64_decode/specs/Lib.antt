@@ -6,3 +6,4 @@ pub mod Operations
 pub mod Table
 pub mod Form
 pub mod Row
+pub mod Range

@@ -29,8 +29,8 @@ use Rattle.rv64_decode.specs.declared.instr.Instr.{Instr}
 use Rattle.rv64_decode.specs.declared.instr.Instr.TheVariants.{Alu, AluImm, Upper, Load, Store, Branch, Jal, Jalr, Fence, Ecall, Ebreak}
 
 -- a word plus a signed number, modulo 2 ^ 64: addresses and targets
-abbrev pub shifted : ℕ → ℤ → ℕ
-shifted a z = (a + cast_unsigned w64 z) % 2 ^ 64
+abbrev pub plus_offset : ℕ → ℤ → ℕ
+plus_offset a z = (a + cast_unsigned w64 z) % 2 ^ 64
 
 -- a word as a signed number
 abbrev pub signed64 : ℕ → ℤ
@@ -121,7 +121,7 @@ alu_imm op a z = alu (register_op op) a (cast_unsigned w64 z)
 -- lui gives the immediate, sign-extended, and auipc adds it to pc
 abbrev pub upper : UpperOp → ℕ → ℤ → ℕ
 upper Lui pc z = cast_unsigned w64 z
-upper Auipc pc z = shifted pc z
+upper Auipc pc z = plus_offset pc z
 
 -- "Load and Store Instructions": how many bytes a load reads
 abbrev pub load_width : LoadOp → Width
@@ -161,8 +161,8 @@ taken Bgeu a b = not (nat_lt a b)
 
 -- the first half: what the instruction asks of memory
 abbrev pub asks : Instr → List ℕ → Ask
-asks (Load op rd rs1 imm) regs = Loads (shifted (register regs rs1) imm) (load_width op)
-asks (Store op rs1 rs2 imm) regs = Stores (shifted (register regs rs1) imm) (store_width op) (register regs rs2)
+asks (Load op rd rs1 imm) regs = Loads (plus_offset (register regs rs1) imm) (load_width op)
+asks (Store op rs1 rs2 imm) regs = Stores (plus_offset (register regs rs1) imm) (store_width op) (register regs rs2)
 asks _ regs = Nothing
 
 -- where an instruction leads, and the registers that it leaves
@@ -206,13 +206,13 @@ stored addr pc regs (Err why) = stopped (StoreFault why) addr regs
 -- rd gets the address after the jump, and jalr reads rs1 first and clears the lowest bit of its sum
 abbrev pub row : Instr → ℕ → List ℕ → Result ℕ MemFault → Outcome
 row (Upper op rd imm) pc regs told = onward pc (with_register regs rd (upper op pc imm))
-row (Jal rd imm) pc regs told = jump (shifted pc imm) regs (with_register regs rd (next_pc pc))
+row (Jal rd imm) pc regs told = jump (plus_offset pc imm) regs (with_register regs rd (next_pc pc))
 row (Jalr rd rs1 imm) pc regs told =
-    let target = shifted (register regs rs1) imm in jump (target - target % 2) regs (with_register regs rd (next_pc pc))
+    let target = plus_offset (register regs rs1) imm in jump (target - target % 2) regs (with_register regs rd (next_pc pc))
 row (Branch op rs1 rs2 imm) pc regs told =
-    if taken op (register regs rs1) (register regs rs2) then jump (shifted pc imm) regs regs else onward pc regs
-row (Load op rd rs1 imm) pc regs told = loaded op rd (shifted (register regs rs1) imm) pc regs told
-row (Store op rs1 rs2 imm) pc regs told = stored (shifted (register regs rs1) imm) pc regs told
+    if taken op (register regs rs1) (register regs rs2) then jump (plus_offset pc imm) regs regs else onward pc regs
+row (Load op rd rs1 imm) pc regs told = loaded op rd (plus_offset (register regs rs1) imm) pc regs told
+row (Store op rs1 rs2 imm) pc regs told = stored (plus_offset (register regs rs1) imm) pc regs told
 row (AluImm op rd rs1 imm) pc regs told = onward pc (with_register regs rd (alu_imm op (register regs rs1) imm))
 row (Alu op rd rs1 rs2) pc regs told = onward pc (with_register regs rd (alu op (register regs rs1) (register regs rs2)))
 row (Fence rd rs1 imm) pc regs told = onward pc regs

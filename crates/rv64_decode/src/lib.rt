@@ -8,6 +8,7 @@
 #![tactic(auto)]
 
 pub mod instr;
+mod laws;
 pub mod memory;
 pub mod outcome;
 pub mod reading;
@@ -17,6 +18,7 @@ mod tests;
 pub mod writing;
 
 pub use instr::{AluOp, BranchOp, ImmOp, Instr, LoadOp, StoreOp, UpperOp};
+pub use laws::{decoded_fields_are_in_range, instructions_keep_words};
 pub use memory::{MemFault, Width, Words};
 pub use outcome::{Fault, Next};
 pub use reading::decode;

@@ -7,21 +7,23 @@ ghost use Rattle.rv64_decode.specs.Form.{IsSigned, IsAmount, InForm};
 use crate::instr::{AluOp, BranchOp, ImmOp, Instr, LoadOp, StoreOp, UpperOp};
 use crate::registers::Reg;
 
-struct Row {
+// The opcode and both function numbers of an instruction.
+struct FullCode {
     opcode: u32,
     three: u32,
     seven: u32,
 }
 
+// The opcode and the first function number of an instruction.
 #[derive(Clone, Copy)]
-struct Start {
+struct ShortCode {
     opcode: u32,
     three: u32,
 }
 
-fn alu_row(op: AluOp) -> Row
+fn alu_code(op: AluOp) -> FullCode
     ensures small { (result.opcode < 2 ^ 7) × (result.three < 2 ^ 3) × (result.seven < 2 ^ 7) }
-    ensures row { (w : ℕ) → IsAlu op w ↔ IsR result.opcode result.three result.seven w }
+    ensures code { (w : ℕ) → IsAlu op w ↔ IsR result.opcode result.three result.seven w }
 {
     let (opcode, three, seven) = match op {
         AluOp::Add => (0x33, 0, 0),
@@ -53,7 +55,7 @@ fn alu_row(op: AluOp) -> Row
         AluOp::Remw => (0x3B, 6, 1),
         AluOp::Remuw => (0x3B, 7, 1),
     };
-    Row {
+    FullCode {
         opcode,
         three,
         seven,
@@ -61,15 +63,16 @@ fn alu_row(op: AluOp) -> Row
 }
 
 /// The only word with these fields.
-fn r_word(row: Row, rd: Reg, rs1: Reg, rs2: Reg) -> u32
-    requires small { (row.opcode < 2 ^ 7) × (row.three < 2 ^ 3) × (row.seven < 2 ^ 7) }
-    ensures { (w : ℕ) → w < 2 ^ 32 → (w ≡ result) ↔ (IsR row.opcode row.three row.seven w × (rd_of w ≡ rd) × (rs1_of w ≡ rs1) × (rs2_of w ≡ rs2)) }
+fn r_word(code: FullCode, rd: Reg, rs1: Reg, rs2: Reg) -> u32
+    requires small { (code.opcode < 2 ^ 7) × (code.three < 2 ^ 3) × (code.seven < 2 ^ 7) }
+    ensures { (w : ℕ) → w < 2 ^ 32 → (w ≡ result)
+        ↔ (IsR code.opcode code.three code.seven w × (rd_of w ≡ rd) × (rs1_of w ≡ rs1) × (rs2_of w ≡ rs2)) }
 {
-    let Row {
+    let FullCode {
         opcode,
         three,
         seven,
-    } = row;
+    } = code;
     let registers = rd.number() as u32 * 0x80
         + rs1.number() as u32 * 0x8000
         + rs2.number() as u32 * 0x10_0000;
@@ -81,7 +84,8 @@ fn i_word(op: u32, three: u32, rd: Reg, rs1: Reg, imm: i32) -> u32
     requires small { (op < 2 ^ 7) × (three < 2 ^ 3) }
     requires low { negsuc 2047 ≤ℤ imm }
     requires high { imm ≤ℤ pos 2047 }
-    ensures { (w : ℕ) → w < 2 ^ 32 → (w ≡ result) ↔ (IsOp op three w × (rd_of w ≡ rd) × (rs1_of w ≡ rs1) × (imm_i w ≡ imm)) }
+    ensures { (w : ℕ) → w < 2 ^ 32 → (w ≡ result)
+        ↔ (IsOp op three w × (rd_of w ≡ rd) × (rs1_of w ≡ rs1) × (imm_i w ≡ imm)) }
 {
     let bits = imm.cast_unsigned() % 0x1000;
     let registers = rd.number() as u32 * 0x80 + rs1.number() as u32 * 0x8000;
@@ -93,7 +97,8 @@ fn s_word(op: u32, three: u32, rs1: Reg, rs2: Reg, imm: i32) -> u32
     requires small { (op < 2 ^ 7) × (three < 2 ^ 3) }
     requires low { negsuc 2047 ≤ℤ imm }
     requires high { imm ≤ℤ pos 2047 }
-    ensures { (w : ℕ) → w < 2 ^ 32 → (w ≡ result) ↔ (IsOp op three w × (rs1_of w ≡ rs1) × (rs2_of w ≡ rs2) × (imm_s w ≡ imm)) }
+    ensures { (w : ℕ) → w < 2 ^ 32 → (w ≡ result)
+        ↔ (IsOp op three w × (rs1_of w ≡ rs1) × (rs2_of w ≡ rs2) × (imm_s w ≡ imm)) }
 {
     let bits = imm.cast_unsigned() % 0x1000;
     let registers = rs1.number() as u32 * 0x8000 + rs2.number() as u32 * 0x10_0000;
@@ -106,7 +111,8 @@ fn b_word(op: u32, three: u32, rs1: Reg, rs2: Reg, imm: i32) -> u32
     requires low { negsuc 4095 ≤ℤ imm }
     requires high { imm ≤ℤ pos 4095 }
     requires even { cast_unsigned w32 imm % 2 ≡ 0 }
-    ensures { (w : ℕ) → w < 2 ^ 32 → (w ≡ result) ↔ (IsOp op three w × (rs1_of w ≡ rs1) × (rs2_of w ≡ rs2) × (imm_b w ≡ imm)) }
+    ensures { (w : ℕ) → w < 2 ^ 32 → (w ≡ result)
+        ↔ (IsOp op three w × (rs1_of w ≡ rs1) × (rs2_of w ≡ rs2) × (imm_b w ≡ imm)) }
 {
     let bits = imm.cast_unsigned() % 0x2000;
     let registers = rs1.number() as u32 * 0x8000 + rs2.number() as u32 * 0x10_0000;
@@ -129,10 +135,9 @@ fn j_word(op: u32, rd: Reg, imm: i32) -> u32
     op + rd.number() as u32 * 0x80 + lower + upper
 }
 
-/// The opcode and the first function number of a row.
-fn load_row(op: LoadOp) -> Start
+fn load_code(op: LoadOp) -> ShortCode
     ensures small { (result.opcode < 2 ^ 7) × (result.three < 2 ^ 3) }
-    ensures row { (w : ℕ) → IsLoad op w ↔ IsOp result.opcode result.three w }
+    ensures code { (w : ℕ) → IsLoad op w ↔ IsOp result.opcode result.three w }
 {
     let (opcode, three) = match op {
         LoadOp::Lb => (0x03, 0),
@@ -143,13 +148,12 @@ fn load_row(op: LoadOp) -> Start
         LoadOp::Lhu => (0x03, 5),
         LoadOp::Lwu => (0x03, 6),
     };
-    Start { opcode, three }
+    ShortCode { opcode, three }
 }
 
-/// The opcode and the first function number of a row.
-fn store_row(op: StoreOp) -> Start
+fn store_code(op: StoreOp) -> ShortCode
     ensures small { (result.opcode < 2 ^ 7) × (result.three < 2 ^ 3) }
-    ensures row { (w : ℕ) → IsStore op w ↔ IsOp result.opcode result.three w }
+    ensures code { (w : ℕ) → IsStore op w ↔ IsOp result.opcode result.three w }
 {
     let (opcode, three) = match op {
         StoreOp::Sb => (0x23, 0),
@@ -157,13 +161,12 @@ fn store_row(op: StoreOp) -> Start
         StoreOp::Sw => (0x23, 2),
         StoreOp::Sd => (0x23, 3),
     };
-    Start { opcode, three }
+    ShortCode { opcode, three }
 }
 
-/// The opcode and the first function number of a row.
-fn branch_row(op: BranchOp) -> Start
+fn branch_code(op: BranchOp) -> ShortCode
     ensures small { (result.opcode < 2 ^ 7) × (result.three < 2 ^ 3) }
-    ensures row { (w : ℕ) → IsBranch op w ↔ IsOp result.opcode result.three w }
+    ensures code { (w : ℕ) → IsBranch op w ↔ IsOp result.opcode result.three w }
 {
     let (opcode, three) = match op {
         BranchOp::Beq => (0x63, 0),
@@ -173,7 +176,7 @@ fn branch_row(op: BranchOp) -> Start
         BranchOp::Bltu => (0x63, 6),
         BranchOp::Bgeu => (0x63, 7),
     };
-    Start { opcode, three }
+    ShortCode { opcode, three }
 }
 
 /// The only word of the form U with these fields.
@@ -190,7 +193,8 @@ fn shift_word(three: u32, six: u32, rd: Reg, rs1: Reg, imm: i32) -> u32
     requires small { (three < 2 ^ 3) × (six < 2 ^ 6) }
     requires low { pos 0 ≤ℤ imm }
     requires high { imm ≤ℤ pos 63 }
-    ensures { (w : ℕ) → w < 2 ^ 32 → (w ≡ result) ↔ (IsShift three six w × (rd_of w ≡ rd) × (rs1_of w ≡ rs1) × (amount64 w ≡ imm)) }
+    ensures { (w : ℕ) → w < 2 ^ 32 → (w ≡ result)
+        ↔ (IsShift three six w × (rd_of w ≡ rd) × (rs1_of w ≡ rs1) × (amount64 w ≡ imm)) }
 {
     let registers = rd.number() as u32 * 0x80 + rs1.number() as u32 * 0x8000;
     0x13 + three * 0x1000 + registers + imm as u32 * 0x10_0000 + six * 0x400_0000
@@ -204,7 +208,8 @@ fn in_twelve(imm: i32) -> bool
 
 fn immediate(op: u32, three: u32, rd: Reg, rs1: Reg, imm: i32) -> Option<u32>
     requires small { (op < 2 ^ 7) × (three < 2 ^ 3) }
-    ensures words { (w : ℕ) → w < 2 ^ 32 → (result ≡ Some w) ↔ (IsOp op three w × (rd_of w ≡ rd) × (rs1_of w ≡ rs1) × (imm_i w ≡ imm)) }
+    ensures words { (w : ℕ) → w < 2 ^ 32 → (result ≡ Some w)
+        ↔ (IsOp op three w × (rd_of w ≡ rd) × (rs1_of w ≡ rs1) × (imm_i w ≡ imm)) }
     ensures form { IsSome result ↔ IsSigned 12 imm }
 {
     if !in_twelve(imm) {
@@ -215,7 +220,8 @@ fn immediate(op: u32, three: u32, rd: Reg, rs1: Reg, imm: i32) -> Option<u32>
 
 fn shift(three: u32, six: u32, rd: Reg, rs1: Reg, imm: i32) -> Option<u32>
     requires small { (three < 2 ^ 3) × (six < 2 ^ 6) }
-    ensures words { (w : ℕ) → w < 2 ^ 32 → (result ≡ Some w) ↔ (IsShift three six w × (rd_of w ≡ rd) × (rs1_of w ≡ rs1) × (amount64 w ≡ imm)) }
+    ensures words { (w : ℕ) → w < 2 ^ 32 → (result ≡ Some w)
+        ↔ (IsShift three six w × (rd_of w ≡ rd) × (rs1_of w ≡ rs1) × (amount64 w ≡ imm)) }
     ensures form { IsSome result ↔ IsAmount 63 imm }
 {
     if imm < 0 || imm > 63 {
@@ -226,18 +232,19 @@ fn shift(three: u32, six: u32, rd: Reg, rs1: Reg, imm: i32) -> Option<u32>
 
 fn shift_w(three: u32, seven: u32, rd: Reg, rs1: Reg, imm: i32) -> Option<u32>
     requires small { (three < 2 ^ 3) × (seven < 2 ^ 7) }
-    ensures words { (w : ℕ) → w < 2 ^ 32 → (result ≡ Some w) ↔ (IsR 0x1B three seven w × (rd_of w ≡ rd) × (rs1_of w ≡ rs1) × (pos (rs2_of w) ≡ imm)) }
+    ensures words { (w : ℕ) → w < 2 ^ 32 → (result ≡ Some w)
+        ↔ (IsR 0x1B three seven w × (rd_of w ≡ rd) × (rs1_of w ≡ rs1) × (pos (rs2_of w) ≡ imm)) }
     ensures form { IsSome result ↔ IsAmount 31 imm }
 {
     if imm < 0 || imm > 31 {
         return None;
     }
-    let row = Row {
+    let code = FullCode {
         opcode: 0x1B,
         three,
         seven,
     };
-    Some(r_word(row, rd, rs1, Reg::new(imm as u8)))
+    Some(r_word(code, rd, rs1, Reg::new(imm as u8)))
 }
 
 /// The word of an operation with an immediate.
@@ -279,15 +286,15 @@ fn encode_alu(op: AluOp, rd: Reg, rs1: Reg, rs2: Reg) -> Option<u32>
     ensures words { (w : ℕ) → w < 2 ^ 32 → (result ≡ Some w) ↔ Means w (Instr.Alu op rd rs1 rs2) }
     ensures form { IsSome result ↔ InForm (Instr.Alu op rd rs1 rs2) }
 {
-    Some(r_word(alu_row(op), rd, rs1, rs2))
+    Some(r_word(alu_code(op), rd, rs1, rs2))
 }
 
 fn encode_load(op: LoadOp, rd: Reg, rs1: Reg, imm: i32) -> Option<u32>
     ensures words { (w : ℕ) → w < 2 ^ 32 → (result ≡ Some w) ↔ Means w (Instr.Load op rd rs1 imm) }
     ensures form { IsSome result ↔ InForm (Instr.Load op rd rs1 imm) }
 {
-    let row = load_row(op);
-    immediate(row.opcode, row.three, rd, rs1, imm)
+    let code = load_code(op);
+    immediate(code.opcode, code.three, rd, rs1, imm)
 }
 
 fn encode_store(op: StoreOp, rs1: Reg, rs2: Reg, imm: i32) -> Option<u32>
@@ -297,8 +304,8 @@ fn encode_store(op: StoreOp, rs1: Reg, rs2: Reg, imm: i32) -> Option<u32>
     if !in_twelve(imm) {
         return None;
     }
-    let row = store_row(op);
-    Some(s_word(row.opcode, row.three, rs1, rs2, imm))
+    let code = store_code(op);
+    Some(s_word(code.opcode, code.three, rs1, rs2, imm))
 }
 
 fn encode_branch(op: BranchOp, rs1: Reg, rs2: Reg, imm: i32) -> Option<u32>
@@ -308,8 +315,8 @@ fn encode_branch(op: BranchOp, rs1: Reg, rs2: Reg, imm: i32) -> Option<u32>
     if imm < -0x1000 || imm > 0xFFF || imm.cast_unsigned() % 2 != 0 {
         return None;
     }
-    let row = branch_row(op);
-    Some(b_word(row.opcode, row.three, rs1, rs2, imm))
+    let code = branch_code(op);
+    Some(b_word(code.opcode, code.three, rs1, rs2, imm))
 }
 
 fn encode_jal(rd: Reg, imm: i32) -> Option<u32>

@@ -1,12 +1,12 @@
 ghost use Rattle.std.specs.Prelude.{◌≡◌, ◌-◌, ◌*◌, ◌/◌, ◌%◌, ◌<◌, ◌^◌};
 ghost use Rattle.rv64_decode.specs.Area.{bytes_of};
-ghost use Rattle.rv64_decode.specs.Row.{shifted, extended32 as extended32_of, divided32 as divided32_of, remainder32 as remainder32_of, high_product as high_product_of, low32, register_op as register_op_of, from_test as from_test_of, alu as alu_of, alu_imm as alu_imm_of, upper as upper_of, load_width, extended as extended_of, taken as taken_of};
+ghost use Rattle.rv64_decode.specs.Row.{plus_offset, extended32 as extended32_of, divided32 as divided32_of, remainder32 as remainder32_of, high_product as high_product_of, low32, register_op as register_op_of, from_test as from_test_of, alu as alu_of, alu_imm as alu_imm_of, upper as upper_of, load_width, extended as extended_of, taken as taken_of};
 
 use rv64_decode::{AluOp, BranchOp, ImmOp, LoadOp, UpperOp};
 
 /// A word plus a signed number, as an address or a target.
-pub fn shift(a: u64, imm: i32) -> u64
-    ensures { result ≡ shifted a imm }
+pub fn plus_offset(a: u64, imm: i32) -> u64
+    ensures { result ≡ plus_offset a imm }
 {
     a.wrapping_add((imm as i64).cast_unsigned())
 }
@@ -170,7 +170,7 @@ pub fn upper(op: UpperOp, pc: u64, imm: i32) -> u64
 {
     match op {
         UpperOp::Lui => (imm as i64).cast_unsigned(),
-        UpperOp::Auipc => shift(pc, imm),
+        UpperOp::Auipc => plus_offset(pc, imm),
     }
 }
 

@@ -1,9 +1,9 @@
 ghost use Rattle.std.specs.Prelude.{◌≡◌, ℕ, List};
-ghost use Rattle.rv64_decode.specs.Ask.{after};
+ghost use Rattle.rv64_decode.specs.Ask.{after, IsAllowed};
 ghost use Rattle.rv64_decode.specs.Registers.{with_register};
 ghost use Rattle.rv64_decode.specs.Row.{asks, outcome, jump as jump_of, next_pc, IsStop};
 
-use crate::arithmetic::{alu, alu_imm, extended, shift, taken, upper};
+use crate::arithmetic::{alu, alu_imm, extended, plus_offset, taken, upper};
 use rv64_decode::{Fault, Instr, Next, Reg, Regs, Words};
 
 // A taken branch.
@@ -37,10 +37,11 @@ fn jump(target: u64, rd: Reg, pc: u64, regs: &mut Regs) -> Next
 }
 
 /// Executes one instruction at the address `pc` (RISC-V unprivileged manual, RV64I and M). `ecall` is
-/// left to the caller.
+/// left to the caller. An instruction that loads or stores may be executed where its access may be
+/// asked of the memory, and any other always.
 #[inline(always)]
 pub fn exec<W: Words>(i: Instr, pc: u64, regs: &mut Regs, mem: &mut W) -> Next
-    requires { W.allows mem.old (asks i regs.old) }
+    requires { IsAllowed (W.allows mem.old) (asks i regs.old) }
     ensures next { result ≡ (outcome i pc regs.old (W.memory mem.old)).next }
     ensures registers { regs.new ≡ (outcome i pc regs.old (W.memory mem.old)).regs }
     ensures memory { W.memory mem.new ≡ after (W.memory mem.old) (asks i regs.old) }
@@ -55,7 +56,7 @@ pub fn exec<W: Words>(i: Instr, pc: u64, regs: &mut Regs, mem: &mut W) -> Next
         Instr::AluImm { op, rd, rs1, imm } => regs.set(rd, alu_imm(op, regs.get(rs1), imm)),
         Instr::Upper { op, rd, imm } => regs.set(rd, upper(op, pc, imm)),
         Instr::Load { op, rd, rs1, imm } => {
-            let addr = shift(regs.get(rs1), imm);
+            let addr = plus_offset(regs.get(rs1), imm);
             match mem.load(addr, op.width()) {
                 Ok(n) => regs.set(rd, extended(op, n)),
                 Err(why) => return Next::Fault {
@@ -65,7 +66,7 @@ pub fn exec<W: Words>(i: Instr, pc: u64, regs: &mut Regs, mem: &mut W) -> Next
             }
         }
         Instr::Store { op, rs1, rs2, imm } => {
-            let addr = shift(regs.get(rs1), imm);
+            let addr = plus_offset(regs.get(rs1), imm);
             if let Err(why) = mem.store(addr, op.width(), regs.get(rs2)) {
                 return Next::Fault {
                     kind: Fault::Store(why),
@@ -74,11 +75,11 @@ pub fn exec<W: Words>(i: Instr, pc: u64, regs: &mut Regs, mem: &mut W) -> Next
             }
         }
         Instr::Branch { op, rs1, rs2, imm } => if taken(op, regs.get(rs1), regs.get(rs2)) {
-            return branch(shift(pc, imm));
+            return branch(plus_offset(pc, imm));
         },
-        Instr::Jal { rd, imm } => return jump(shift(pc, imm), rd, pc, regs),
+        Instr::Jal { rd, imm } => return jump(plus_offset(pc, imm), rd, pc, regs),
         Instr::Jalr { rd, rs1, imm } => {
-            let sum = shift(regs.get(rs1), imm);
+            let sum = plus_offset(regs.get(rs1), imm);
             return jump(sum - sum % 2, rd, pc, regs);
         }
         Instr::Fence { .. } => {}

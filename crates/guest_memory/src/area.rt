@@ -17,7 +17,7 @@ pub(crate) enum Access {
 
 /// Bytes from an address on, and what may be done with them.
 #[derive(Drop)]
-pub(crate) struct Piece {
+pub(crate) struct GuestArea {
     low: u64,
     readable: bool,
     writable: bool,
@@ -25,24 +25,36 @@ pub(crate) struct Piece {
     bytes: Vec<u8>,
 }
 
-impl Model for Piece {
+impl Model for GuestArea {
     ghost use Rattle.rv64_decode.specs.Area.{Area};
     ghost use Rattle.guest_memory.specs.Layout.{end_of};
     ghost use Rattle.std.specs.Prelude.{◌+◌, ◌<◌, ◌^◌, length};
 
     ghost Value = { Area };
 
-    ghost view = { λ p. record { low = p.low; readable = p.readable; writable = p.writable; executable = p.executable; bytes = p.bytes.items } };
+    ghost view = { λ a. record {
+        low = a.low;
+        readable = a.readable;
+        writable = a.writable;
+        executable = a.executable;
+        bytes = a.bytes.items
+    } };
 
-    ghost invariant = { λ p. p.low + length p.bytes.items < 2 ^ 63 };
+    ghost invariant = { λ a. a.low + length a.bytes.items < 2 ^ 63 };
 }
 
-impl Piece {
-    pub fn new(low: u64, readable: bool, writable: bool, executable: bool, bytes: Vec<u8>) -> Piece
+impl GuestArea {
+    pub fn new(low: u64, readable: bool, writable: bool, executable: bool, bytes: Vec<u8>) -> GuestArea
         requires { low + length bytes.items < 2 ^ 63 }
-        ensures { result ≡ record { low = low; readable = readable; writable = writable; executable = executable; bytes = bytes.items } }
+        ensures { result ≡ record {
+            low = low;
+            readable = readable;
+            writable = writable;
+            executable = executable;
+            bytes = bytes.items
+        } }
     {
-        Piece {
+        GuestArea {
             low,
             readable,
             writable,
@@ -133,7 +145,9 @@ impl Piece {
     pub fn set_number(&mut self, addr: u64, width: Width, value: u64)
         requires from { self.old.low ≤ addr }
         requires to { addr + bytes_of width ≤ end_of self.old }
-        ensures { self.new ≡ record self.old { bytes = with_bytes (bytes_of width) (addr - self.old.low) value self.old.bytes } }
+        ensures { self.new ≡ record self.old {
+            bytes = with_bytes (bytes_of width) (addr - self.old.low) value self.old.bytes
+        } }
     {
         let place = (addr - self.low) as usize;
         write(self.bytes.as_mut_slice(), place, width, value);
