@@ -43,6 +43,10 @@ abbrev pub around : List Level → ℕ → ℕ → Option Level
 around [] k x = None
 around (l ∷ ls) k x = if l.depth == k then (if has l.body x then Some l else around ls k x) else around ls k x
 
+-- the word at x is in the loop
+abbrev pub Holds : Level → ℕ → Type 0
+Holds l x = has l.body x ≡ true
+
 -- an edge between two words of a body
 pub record Edge (N : Nest) (body : List ℕ) (u v : ℕ) : Type 0 where
   pub from : has body u ≡ true
@@ -61,22 +65,22 @@ IsPass N l (y ∷ ys) = Edge N l.body y l.header × IsPassTo N l ys y
 
 -- the branch at which the loop is left has one side in the body and one outside
 pub record HasSides (N : Nest) (l : Level) : Type 0 where
-  pub inside : has l.body l.exit ≡ true
+  pub inside : Holds l l.exit
   pub on : ℕ
   pub leads_on : N.leads l.exit on ≡ true
-  pub stays : has l.body on ≡ true
+  pub stays : Holds l on
   pub out : ℕ
   pub leads_out : N.leads l.exit out ≡ true
   pub leaves : has l.body out ≡ false
 
 -- an edge that closes no loop
 abbrev pub ClosesNone : Nest → ℕ → ℕ → Type 0
-ClosesNone N u v = (l : Level) → Among N l → has l.body u ≡ true → v ≢ l.header
+ClosesNone N u v = (l : Level) → Among N l → Holds l u → v ≢ l.header
 
 -- an order of the words, in which each edge that closes no loop goes up
 pub record IsRank (N : Nest) (rank : ℕ → ℕ) (bound : ℕ) : Type 0 where
   pub up : (u v : ℕ) → Edge N N.root.body u v → ClosesNone N u v → rank u < rank v
-  pub below : (u : ℕ) → has N.root.body u ≡ true → rank u < bound
+  pub below : (u : ℕ) → Holds N.root u → rank u < bound
 
 pub record HasRank (N : Nest) : Type 0 where
   pub rank : ℕ → ℕ
@@ -92,20 +96,21 @@ pub record IsEntered (N : Nest) (v : ℕ) : Type 0 where
 -- how the bodies of the loops lie to each other
 pub record AreNested (N : Nest) : Type 0 where
   -- each loop has its header and lies in the root, and its header alone is entered from outside
-  pub header : (l : Level) → Among N l → has l.body l.header ≡ true
-  pub within : (l : Level) → Among N l → (x : ℕ) → has l.body x ≡ true → has N.root.body x ≡ true
-  pub enter : (l : Level) → Among N l → (u v : ℕ) → Edge N N.root.body u v → has l.body u ≡ false → has l.body v ≡ true → v ≡ l.header
+  pub header : (l : Level) → Among N l → Holds l l.header
+  pub within : (l : Level) → Among N l → (x : ℕ) → Holds l x → Holds N.root x
+  pub enter : (l : Level) → Among N l → (u v : ℕ) → Edge N N.root.body u v → has l.body u ≡ false → Holds l v
+      → v ≡ l.header
   -- a loop whose header lies in another lies in it whole, and no two lie in each other
-  pub nested : (l m : Level) → Among N l → Among N m → has m.body l.header ≡ true → (x : ℕ) → has l.body x ≡ true → has m.body x ≡ true
-  pub apart : (l m : Level) → Among N l → Among N m → has m.body l.header ≡ true → has l.body m.header ≡ true → l ≡ m
+  pub nested : (l m : Level) → Among N l → Among N m → Holds m l.header → (x : ℕ) → Holds l x → Holds m x
+  pub apart : (l m : Level) → Among N l → Among N m → Holds m l.header → Holds l m.header → l ≡ m
   -- of the loops round a word there is one of each depth, and the deeper lies in the other
-  pub alone : (l m : Level) → Among N l → Among N m → l.depth ≡ m.depth → (x : ℕ) → has l.body x ≡ true → has m.body x ≡ true → l ≡ m
-  pub deeper : (l m : Level) → Among N l → Among N m → l.depth < m.depth → (x : ℕ) → has l.body x ≡ true → has m.body x ≡ true → has l.body m.header ≡ true
+  pub alone : (l m : Level) → Among N l → Among N m → l.depth ≡ m.depth → (x : ℕ) → Holds l x → Holds m x → l ≡ m
+  pub deeper : (l m : Level) → Among N l → Among N m → l.depth < m.depth → (x : ℕ) → Holds l x → Holds m x → Holds l m.header
   -- the depths: the root's is 0, and that of no other; the others' are 1 and 2, and one of 2 lies in one of 1
   pub outermost : N.root.depth ≡ 0
   pub inner_deep : (l : Level) → In N.inner l → l.depth ≢ 0
   pub depth : (l : Level) → Among N l → l.depth < 3
-  pub between : (m : Level) → Among N m → m.depth ≡ 2 → (l : Level) × Among N l × (l.depth ≡ 1) × (has l.body m.header ≡ true)
+  pub between : (m : Level) → Among N m → m.depth ≡ 2 → (l : Level) × Among N l × (l.depth ≡ 1) × Holds l m.header
   -- no loop is listed twice
   pub distinct : AreDistinct N.inner
   pub inner_header : (l : Level) → In N.inner l → l.header ≢ N.root.header
@@ -117,12 +122,12 @@ pub record HasShapes (N : Nest) : Type 0 where
   pub back : (l : Level) → Among N l → (u : ℕ) → Edge N l.body u l.header → u ≡ l.back
   -- one branch leaves it, which lies on each pass, and the root's in no inner loop
   pub sides : (l : Level) → Among N l → HasSides N l
-  pub stays_in : (l : Level) → Among N l → (u v : ℕ) → has l.body u ≡ true → u ≢ l.exit → N.leads u v ≡ true → has l.body v ≡ true
+  pub stays_in : (l : Level) → Among N l → (u v : ℕ) → Holds l u → u ≢ l.exit → N.leads u v ≡ true → Holds l v
   pub exits_lie : (l : Level) → Among N l → (ys : List ℕ) → IsPass N l ys → has ys l.exit ≡ true
   pub exit_outermost : (l : Level) → In N.inner l → has l.body N.root.exit ≡ false
   -- the other edges make no cycle, and each word but the root's header is led to
   pub ranked : HasRank N
-  pub entered : (v : ℕ) → has N.root.body v ≡ true → v ≢ N.root.header → IsEntered N v
+  pub entered : (v : ℕ) → Holds N.root v → v ≢ N.root.header → IsEntered N v
 
 -- what a nest promises
 pub record IsNest (N : Nest) : Type 0 where

@@ -9,7 +9,8 @@ use Rattle.loop_data.specs.Targets.{Targets, before, targets_at, pair_at, succes
 pub data Reached (elf : Elf) : ℕ → Type 0 where
   entry : IsCode elf elf.entry → Reached elf elf.entry
   alone : (a b : ℕ) → Reached elf a → Contains (successors (targets_at elf None a)) b → IsCode elf b → Reached elf b
-  paired : (a b target : ℕ) → Reached elf a → Reached elf (before a) → pair_at elf a ≡ Some target → Contains (successors (targets_at elf (Some target) a)) b → IsCode elf b → Reached elf b
+  paired : (a b target : ℕ) → Reached elf a → Reached elf (before a) → pair_at elf a ≡ Some target
+      → Contains (successors (targets_at elf (Some target) a)) b → IsCode elf b → Reached elf b
 
 -- where a reached word leads: as the second of a pair exactly where the word before it is reached
 abbrev pub HasTargets : Elf → ℕ → Targets → Type 0

@@ -13,11 +13,11 @@ pub record IsLeastEdge (all : List (ℕ × ℕ)) (e : ℕ × ℕ) : Type 0 where
   pub least : (f : ℕ × ℕ) → Contains all f → IsBefore e f
 
 -- a start word that is a reached word
-pub record IsStart (G : Graph) (x : ℕ) : Type 0 where
+pub record IsStartWord (G : Graph) (x : ℕ) : Type 0 where
   pub word : IsWord G x
   pub start : Contains G.starts x
 
 -- such a word among others
 pub record IsStartAmong (G : Graph) (xs : List ℕ) (x : ℕ) : Type 0 where
   pub among : Contains xs x
-  pub start : IsStart G x
+  pub start : IsStartWord G x

@@ -32,14 +32,17 @@ pub record AreBodies (G : Graph) : Type 0 where
   pub start : (h s x : ℕ) → Contains G.starts s → InBody G h x → ¬ Reaches (Leads G) (λ y. y ≢ h) s x
   -- no loop of a nest lies round the root, and one with two round it lies in one with one
   pub outermost : (h k : ℕ) → ¬ IsRound G h h k
-  pub between : (h m : ℕ) → InNest G h m → HasCount (IsRound G h m) 2 → (k : ℕ) × InNest G h k × HasCount (IsRound G h k) 1 × InBody G k m
+  pub between : (h m : ℕ) → InNest G h m → HasCount (IsRound G h m) 2
+      → (k : ℕ) × InNest G h k × HasCount (IsRound G h k) 1 × InBody G k m
 
 abbrev pub BodyLaw : Type 0
 BodyLaw = (elf : Elf) (G : Graph) → IsGraph elf G → AreBodies G
 
 -- a loop has the shape where it has it whatever its inner loops have, and each of these has the shape
 abbrev pub ShapeLaw : Type 0
-ShapeLaw = (elf : Elf) (G : Graph) (h : ℕ) → IsGraph elf G → HasShape G h ↔ (IsShaped G h × ((k : ℕ) → IsInner G h k → HasShape G k))
+ShapeLaw =
+    (elf : Elf) (G : Graph) (h : ℕ) → IsGraph elf G
+    → HasShape G h ↔ (IsShaped G h × ((k : ℕ) → IsInner G h k → HasShape G k))
 
 -- what a loop without an early verdict promises
 abbrev pub NestLaw : Type 0

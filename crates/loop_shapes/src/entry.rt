@@ -2,7 +2,7 @@ ghost use Rattle.std.specs.Prelude.{◌≡◌, ◌≢◌, ◌↔◌, ◌<◌, �
 ghost use Rattle.std.specs.List.{Contains};
 ghost use Rattle.std.specs.List.Sorted.{IsStrictlyIncreasing};
 ghost use Rattle.loop_data.specs.Bodies.{IsHeader, InPart};
-ghost use Rattle.loop_shapes.specs.Entry.{IsBefore, IsLeastEdge, IsStart, IsStartAmong};
+ghost use Rattle.loop_shapes.specs.Entry.{IsBefore, IsLeastEdge, IsStartWord, IsStartAmong};
 ghost use Rattle.loop_data.specs.Listed.{HasVerdict};
 ghost use Rattle.loop_shapes.specs.Net.{IsNet, graph_of};
 ghost use Rattle.loop_data.specs.Paths.{Leads, Reaches};
@@ -51,7 +51,7 @@ fn least_edge(all: &[(u64, u64)]) -> Option<(u64, u64)>
 // Whether a start word stands at an address.
 fn is_start(net: &Net, x: u64) -> bool
     requires { IsNet net.now }
-    ensures { IsTrue result ↔ IsStart (graph_of net.now) x }
+    ensures { IsTrue result ↔ IsStartWord (graph_of net.now) x }
 {
     match find(net, x) {
         Some(place) => net.starts[place],

@@ -88,7 +88,7 @@ fn listed(
     let graph = graph(alloc, lines, starts)?;
     let at = address_list(alloc, &graph)?;
     assert!(rt; rises(at.as_slice()));
-    assert!(rt; at.len() < 1000);
+    assert!(rt; at.len() < 10000);
     loops(alloc, &graph)
 }
 
@@ -176,6 +176,24 @@ fn words_that_a_loop_may_not_have(rt: HostRuntime) -> Result<(), Fail> {
     assert!(rt; with_word(&rt, alloc, UPPER, JUMP_REGISTER)? == Some(Verdict::Indirect { at }));
     assert!(rt; with_word(&rt, alloc, ADD, NO_WORD)? == Some(Verdict::Unsupported { at }));
     assert!(rt; with_word(&rt, alloc, ADD, ADD)? == None);
+    Ok(())
+}
+
+#[test]
+fn the_first_kind_of_word_decides(rt: HostRuntime) -> Result<(), Fail> {
+    let alloc = rt.alloc();
+    let first = 0x10080;
+    let second = 0x10084;
+    assert!(rt; with_word(&rt, alloc, ECALL, CALL)? == Some(Verdict::Call { at: second }));
+    assert!(rt;
+        with_word(&rt, alloc, JUMP_REGISTER, ECALL)? == Some(Verdict::System { at: second })
+    );
+    assert!(rt;
+        with_word(&rt, alloc, NO_WORD, JUMP_REGISTER)? == Some(Verdict::Indirect { at: second })
+    );
+    assert!(rt; with_word(&rt, alloc, NO_WORD, CALL)? == Some(Verdict::Call { at: second }));
+    assert!(rt; with_word(&rt, alloc, CALL, CALL)? == Some(Verdict::Call { at: first }));
+    assert!(rt; with_word(&rt, alloc, ECALL, NO_WORD)? == Some(Verdict::System { at: first }));
     Ok(())
 }
 
@@ -316,7 +334,7 @@ fn a_second_start_is_a_second_entry(rt: HostRuntime) -> Result<(), Fail> {
 
 // The address of a word by its number.
 fn at(i: usize) -> u64
-    requires { i < 1000 }
+    requires { i < 10000 }
 {
     0x10000 + 4 * i as u64
 }
@@ -349,14 +367,21 @@ fn of_length(rt: &impl Abort, alloc: Global, count: usize) -> Result<Option<Verd
     Ok(shapes[0].early)
 }
 
-// The early verdict of two loops with one header, the second of which ends at a word.
-fn of_two(rt: &impl Abort, alloc: Global, last: usize) -> Result<Option<Verdict>, AllocError>
+// The early verdict of two loops with one header, the second of which ends at a word, and with a word of
+// these bits in the first.
+fn of_two(
+    rt: &impl Abort,
+    alloc: Global,
+    last: usize,
+    bits: u32,
+) -> Result<Option<Verdict>, AllocError>
     requires { last < 300 }
 {
     let mut lines = Vec::new(alloc);
     push_adds(&mut lines, 0, 1)?;
     lines.push((at(1), BRANCH, at(2), at(130)))?;
-    push_adds(&mut lines, 2, 129)?;
+    lines.push((at(2), bits, at(3), 0))?;
+    push_adds(&mut lines, 3, 129)?;
     lines.push((at(129), JUMP, at(1), 0))?;
     push_adds(&mut lines, 130, last)?;
     lines.push((at(last), BRANCH, at(last + 1), at(1)))?;
@@ -372,8 +397,10 @@ fn bodies_have_at_most_256_words(rt: HostRuntime) -> Result<(), Fail> {
     let alloc = rt.alloc();
     assert!(rt; of_length(&rt, alloc, 256)? == None);
     assert!(rt; of_length(&rt, alloc, 257)? == Some(Verdict::Limit { at: at(1) }));
-    assert!(rt; of_two(&rt, alloc, 256)? == Some(Verdict::Shape { at: at(1) }));
-    assert!(rt; of_two(&rt, alloc, 257)? == Some(Verdict::Limit { at: at(1) }));
+    assert!(rt; of_two(&rt, alloc, 256, ADD)? == Some(Verdict::Shape { at: at(1) }));
+    assert!(rt; of_two(&rt, alloc, 257, ADD)? == Some(Verdict::Limit { at: at(1) }));
+    assert!(rt; of_two(&rt, alloc, 256, CALL)? == Some(Verdict::Call { at: at(2) }));
+    assert!(rt; of_two(&rt, alloc, 257, CALL)? == Some(Verdict::Limit { at: at(1) }));
     Ok(())
 }
 
@@ -429,5 +456,108 @@ fn nests_have_at_most_four_loops_and_three_levels(rt: HostRuntime) -> Result<(),
     assert_eq!(rt; deep.len(), 4);
     expect_line(&rt, deep.as_slice(), 0, at(1), limit);
     expect_line(&rt, deep.as_slice(), 1, at(2), None);
+    Ok(())
+}
+
+// The line of a word to which a second entry's edge leads back, and another edge from this word.
+fn with_two_edges(
+    rt: &impl Abort,
+    alloc: Global,
+    last: usize,
+) -> Result<Option<Verdict>, AllocError>
+    requires { last < 400 }
+{
+    let mut lines = Vec::new(alloc);
+    lines.push((at(0), BRANCH, at(1), at(4)))?;
+    push_adds(&mut lines, 1, 5)?;
+    lines.push((at(5), BRANCH, at(6), at(2)))?;
+    push_adds(&mut lines, 6, last)?;
+    lines.push((at(last), BRANCH, at(last + 1), at(2)))?;
+    lines.push((at(last + 1), EBREAK, 0, 0))?;
+    let shapes = listed(rt, alloc, lines.as_slice(), &[at(0)])?;
+    assert!(rt; shapes.len() == 1);
+    assert!(rt; shapes[0].header == at(2));
+    Ok(shapes[0].early)
+}
+
+#[test]
+fn an_edge_past_the_limit_decides_the_line(rt: HostRuntime) -> Result<(), Fail> {
+    let alloc = rt.alloc();
+    let entry = Verdict::MultiEntry {
+        from: at(0),
+        to: at(4),
+    };
+    assert!(rt; with_two_edges(&rt, alloc, 200)? == Some(entry));
+    assert!(rt; with_two_edges(&rt, alloc, 300)? == Some(Verdict::Limit { at: at(2) }));
+    Ok(())
+}
+
+#[test]
+fn an_inner_loop_below_its_root_has_not_the_shape(rt: HostRuntime) -> Result<(), Fail> {
+    let lines = [
+        (at(0), JUMP, at(4), 0),
+        (at(1), BRANCH, at(2), at(3)),
+        (at(2), BRANCH, at(3), at(1)),
+        (at(3), ADD, at(4), 0),
+        (at(4), ADD, at(5), 0),
+        (at(5), BRANCH, at(6), at(1)),
+        (at(6), EBREAK, 0, 0),
+    ];
+    let shapes = listed(&rt, rt.alloc(), &lines, &[at(0)])?;
+    assert_eq!(rt; shapes.len(), 2);
+    let shape = Some(Verdict::Shape { at: at(1) });
+    expect_line(&rt, shapes.as_slice(), 0, at(1), shape);
+    expect_line(&rt, shapes.as_slice(), 1, at(4), shape);
+    Ok(())
+}
+
+#[test]
+fn a_loop_is_left_to_a_word_that_is_not_reached(rt: HostRuntime) -> Result<(), Fail> {
+    let lines = [(at(0), ADD, at(1), 0), (at(1), BRANCH, at(2), at(0))];
+    let shapes = listed(&rt, rt.alloc(), &lines, &[at(0)])?;
+    assert_eq!(rt; shapes.len(), 1);
+    expect_line(&rt, shapes.as_slice(), 0, at(0), None);
+    let levels = shapes[0].levels.as_slice();
+    assert_eq!(rt; levels.len(), 1);
+    assert_eq!(rt; levels[0].exit, at(1));
+    Ok(())
+}
+
+#[test]
+fn a_loop_entered_by_a_jump_to_its_test(rt: HostRuntime) -> Result<(), Fail> {
+    let lines = [
+        (at(0), JUMP, at(3), 0),
+        (at(1), ADD, at(2), 0),
+        (at(2), ADD, at(3), 0),
+        (at(3), BRANCH, at(4), at(1)),
+        (at(4), EBREAK, 0, 0),
+    ];
+    let shapes = listed(&rt, rt.alloc(), &lines, &[at(0)])?;
+    assert_eq!(rt; shapes.len(), 1);
+    expect_line(&rt, shapes.as_slice(), 0, at(3), None);
+    let levels = shapes[0].levels.as_slice();
+    assert_eq!(rt; levels.len(), 1);
+    assert_eq!(rt; levels[0].body.as_slice(), [at(1), at(2), at(3)].as_slice());
+    assert_eq!(rt; levels[0].back, at(2));
+    assert_eq!(rt; levels[0].exit, at(3));
+    Ok(())
+}
+
+#[test]
+fn many_loops_one_after_another(rt: HostRuntime) -> Result<(), Fail> {
+    let alloc = rt.alloc();
+    let mut lines = Vec::new(alloc);
+    for i in 0..2048 {
+        lines.push((at(4 * i), ADD, at(4 * i + 1), 0))?;
+        lines.push((at(4 * i + 1), ADD, at(4 * i + 2), 0))?;
+        lines.push((at(4 * i + 2), ADD, at(4 * i + 3), 0))?;
+        lines.push((at(4 * i + 3), BRANCH, at(4 * i + 4), at(4 * i + 1)))?;
+    }
+    lines.push((at(8192), EBREAK, 0, 0))?;
+    let shapes = listed(&rt, alloc, lines.as_slice(), &[at(0)])?;
+    assert_eq!(rt; shapes.len(), 2048);
+    for i in 0..2048 {
+        expect_line(&rt, shapes.as_slice(), i, at(4 * i + 1), None);
+    }
     Ok(())
 }
