@@ -13,3 +13,9 @@ pub mod Loops
 pub mod Starts
 pub mod Nests
 pub mod LoopWords
+pub mod Runs
+pub mod Turns
+pub mod Passes
+pub mod Locations
+pub mod Independent
+pub mod Holds
