@@ -1,0 +1,3 @@
+pub mod Visits
+pub mod Tests
+pub mod Adding
