@@ -8,12 +8,13 @@ use Rattle.rv64_decode.specs.declared.outcome.Next.{Next}
 use Rattle.rv64_decode.specs.declared.outcome.Next.TheVariants.{At, Call, Fault as Faulting}
 use Rattle.loop_data.specs.Nests.{has}
 use Rattle.loop_data.specs.Runs.{State, step, run, walk, pc_in, goes_at, access}
-use Rattle.loop_data.specs.Turns.{turn, IsArrival, covers, loads_byte, stores_byte, Reads, Writes, Leaves, Stays}
+use Rattle.rv64_decode.specs.Area.{Area}
+use Rattle.loop_data.specs.Turns.{IsSameArea, AtLoop, turn, IsArrival, covers, loads_byte, stores_byte, Reads, Writes, Leaves, Stays}
 use Rattle.loop_data.specs.Locations.{no_cells}
 use Rattle.loop_data.specs.Independent.{Role, Keeps, IsOutside, AreApart, Independent}
-use Rattle.loop_samples.specs.AddLoop.{add_loop, arrays, add_roles}
+use Rattle.loop_samples.specs.AddLoop.{add_loop, areas, arrays, add_roles}
 use Rattle.loop_samples.proofs.Visits.{Visit, visit, all_visits, and_true, passes_test, turns_from}
-use Rattle.loop_samples.proofs.Tests.{same_access, same_loads, same_stores, goes_is, turn_test, turns_from_test, roles_from_test, no_cells_kept}
+use Rattle.loop_samples.proofs.Tests.{same_access, same_loads, same_stores, goes_is, eq_from, turn_test, IsTested, turns_from_test, roles_from_test, no_cells_kept, no_cells_same}
 
 -- the access of each word in turn t
 abbrev expected : ℕ → ℕ → Ask
@@ -31,7 +32,7 @@ all_regular : all_visits regular add_loop 159 0 (visit add_loop arrays 0) ≡ tr
 unfolding step
 all_regular = refl
 
-all_tested : all_visits (turn_test add_loop add_roles arrays 19) add_loop 152 0 (visit add_loop arrays 0) ≡ true
+all_tested : all_visits (turn_test add_loop no_cells 32 add_roles arrays 19) add_loop 152 0 (visit add_loop arrays 0) ≡ true
 unfolding step
 all_tested = refl
 
@@ -39,9 +40,6 @@ pub record IsRegular (n : ℕ) : Type 0 where
   pub turn : turn add_loop arrays n ≡ n / 8
   pub next : (run arrays n).next ≡ At (0x1_00F0 + 4 * (n % 8))
   pub access : same_access (access (run arrays n)) (expected (n % 8) (n / 8)) ≡ true
-
-eq_from : (a b : ℕ) → (a == b) ≡ true → a ≡ b
-eq_from a b e = grind (arith, nat_tests)
 
 pub regular_at : (n : ℕ) → n < 160 → IsRegular n
 regular_at n h =
@@ -142,8 +140,8 @@ apart =
     record {
       reads = λ i j b hi hj n w o r. no_read i j b hi hj (writes_are i b hi w) (reads_are j b hj r);
       writes = λ i j b hi hj n w o v.
-        let p = within _ _ b (writes_are i b hi w) in let q = within _ _ b (writes_are j b hj v) in
-        let a = p.0 in let c = p.1 in let d = q.0 in let f = q.1 in n (omega arith);
+          let p = within _ _ b (writes_are i b hi w) in let q = within _ _ b (writes_are j b hj v) in
+          let a = p.0 in let c = p.1 in let d = q.0 in let f = q.1 in n (omega arith);
     }
   where
     no_read : (i j b : ℕ) → i < 19 → j < 19 → covers (0x2_0140 + 8 * i) 8 b ≡ true → (covers (0x2_0000 + 8 * j) 8 b ≡ true) ⊎ (covers (0x2_00A0 + 8 * j) 8 b ≡ true) → ⊥
@@ -161,13 +159,16 @@ high r h =
     let e : (r == 15) ≡ false = grind (arith, nat_tests) in
     rw (a, b, c, d, e) refl
 
+tested : IsTested add_loop no_cells 32 add_roles arrays 19 152
+tested = record { tested = all_tested; last = last_turn; high = high; same = no_cells_same arrays.regs arrays }
+
 pub independent : Independent add_loop no_cells add_roles arrays 19
 independent =
     record {
-      turns = turns_from_test add_loop add_roles arrays 19 152 all_tested last_turn high (λ t h. (8 * t, arrival t h));
+      turns = turns_from_test add_loop no_cells 32 add_roles arrays 19 152 tested (λ t h. (8 * t, arrival t h));
       cells = no_cells_kept add_loop arrays 19;
       apart = apart;
-      locations = roles_from_test add_loop add_roles arrays 19 152 all_tested last_turn high;
+      locations = roles_from_test add_loop no_cells 32 add_roles arrays 19 152 tested;
     }
 
 -- the branch of turn 19 leaves, and no other before it does
@@ -200,3 +201,12 @@ stays =
       leaves = record { exit = r.next; out = left };
       first = λ n h x. let e = stays_until n (let k = early n h in omega arith) in let f = x.out in absurd (cc);
     }
+
+pub turns_are : (n : ℕ) → n < 160 → (turn add_loop arrays n ≡ n / 8) × (walk arrays n ≡ 0x1_00F0 + 4 * (n % 8))
+turns_are n h = let r = regular_at n h in (r.turn, ap pc_in r.next)
+
+same_area : (a : Area) → IsSameArea a a
+same_area a = record { low = refl; length = refl; readable = refl; writable = refl; executable = refl; code = λ e. refl }
+
+pub at_loop : AtLoop areas add_loop arrays
+at_loop = record { at = refl; areas = (same_area _, (same_area _, tt)) }

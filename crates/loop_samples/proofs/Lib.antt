@@ -1,3 +1,5 @@
 pub mod Visits
 pub mod Tests
 pub mod Adding
+pub mod Chain
+pub mod Summing

@@ -4,7 +4,6 @@ use Rattle.std.proofs.lemmas.Bool.Decides.{nat_tests}
 use native.Mathlib.Decide.{dec_le}
 use Rattle.rv64_decode.specs.Area.{bytes_of}
 use Rattle.rv64_decode.specs.Ask.{Ask, Nothing, Loads, Stores}
-use Rattle.rv64_decode.specs.Registers.{register}
 use Rattle.rv64_decode.specs.declared.outcome.Next.{Next}
 use Rattle.rv64_decode.specs.declared.outcome.Next.TheVariants.{At, Call, Fault as Faulting}
 use Rattle.linear_forms.specs.Forms.{word_of}
@@ -12,7 +11,7 @@ use Rattle.loop_data.specs.declared.shape.Level.{Level}
 use Rattle.loop_data.specs.Nests.{has}
 use Rattle.loop_data.specs.Runs.{State, step, run, walk, pc_in, goes_at, instr, instr_at, access}
 use Rattle.loop_data.specs.Turns.{arrives, turn, seen, IsArrival, covers, loads_byte, stores_byte}
-use Rattle.loop_data.specs.Locations.{no_cells, value_of, word_reads, some_writes}
+use Rattle.loop_data.specs.Locations.{CellMap, no_cells, value_of, word_reads, some_writes}
 use Rattle.loop_data.specs.Independent.{Role, Keeps, Moves, Private, AreTurns, AreCells, HaveRoles}
 use Rattle.loop_samples.proofs.Visits.{Visit, visit, all_visits, and_true, passes_test, turns_from, later_arrival}
 
@@ -94,34 +93,45 @@ is_private Keeps = false
 is_private (Moves z) = false
 is_private Private = true
 
-abbrev pub arrival_test : Level → (ℕ → Role) → State → Visit → Bool
-arrival_test l roles s v =
-    implies (goes_at (λ pc. pc == l.header) v.state.next) (below 32 (λ r. value_fits (roles r) (register s.regs r) (register v.state.regs r) v.turn))
+-- the tests of a visit of a loop with these cells, for the locations below `top`
+abbrev pub arrival_test : Level → CellMap → ℕ → (ℕ → Role) → State → Visit → Bool
+arrival_test l C top roles s v =
+    implies (goes_at (λ pc. pc == l.header) v.state.next) (below top (λ r. value_fits (roles r) (value_of C s.regs s r) (value_of C s.regs v.state r) v.turn))
 
-abbrev pub written_test : Level → (ℕ → Role) → State → Visit → Bool
-written_test l roles s v =
+abbrev pub written_test : Level → CellMap → ℕ → (ℕ → Role) → State → Visit → Bool
+written_test l C top roles s v =
     implies (goes_at (λ pc. pc == l.header) (step v.state).next)
-    (below 32 (λ r. implies (is_private (roles r)) (some_writes no_cells (instr_at s.memory) (pc_in v.state.next ∷ v.seen) r)))
+    (below top (λ r. implies (is_private (roles r)) (some_writes C (instr_at s.memory) (pc_in v.state.next ∷ v.seen) r)))
 
-abbrev pub before_test : Level → (ℕ → Role) → State → Visit → Bool
-before_test l roles s v =
-    below 32 (λ r. implies (is_private (roles r)) (implies (word_reads no_cells (pc_in v.state.next) (instr v.state) r) (some_writes no_cells (instr_at s.memory) v.seen r)))
+abbrev pub before_test : CellMap → ℕ → (ℕ → Role) → State → Visit → Bool
+before_test C top roles s v =
+    below top (λ r. implies (is_private (roles r)) (implies (word_reads C (pc_in v.state.next) (instr v.state) r) (some_writes C (instr_at s.memory) v.seen r)))
 
 abbrev pub path_test : Level → Visit → Bool
 path_test l v = goes_at (has l.body) v.state.next && goes_at (λ pc. true) (step v.state).next
 
--- the tests of a visit, for the first p turns
-abbrev pub turn_test : Level → (ℕ → Role) → State → ℕ → ℕ → Visit → Bool
-turn_test l roles s p n v =
-    arrival_test l roles s v && implies (nat_lt v.turn p) (path_test l v && (written_test l roles s v && before_test l roles s v))
+-- those of a visit of the first p turns
+abbrev pub turn_test : Level → CellMap → ℕ → (ℕ → Role) → State → ℕ → ℕ → Visit → Bool
+turn_test l C top roles s p n v =
+    arrival_test l C top roles s v && implies (nat_lt v.turn p) (path_test l v && (written_test l C top roles s v && before_test C top roles s v))
 
-module _ (l : Level) (roles : ℕ → Role) (s : State) (p k : ℕ) (tested : all_visits (turn_test l roles s p) l k 0 (visit l s 0) ≡ true) (last : turn l s k ≡ p) (high : (r : ℕ) → 32 ≤ r → roles r ≡ Keeps) where
-  early : (n : ℕ) → turn l s n < p → n ≤ k
+pub eq_from : (a b : ℕ) → (a == b) ≡ true → a ≡ b
+eq_from a b e = grind (arith, nat_tests)
+
+-- up to visit k, of turn p, each visit is tested; locations from `top` on keep their values
+pub record IsTested (l : Level) (C : CellMap) (top : ℕ) (roles : ℕ → Role) (s : State) (p k : ℕ) : Type 0 where
+  pub tested : all_visits (turn_test l C top roles s p) l k 0 (visit l s 0) ≡ true
+  pub last : turn l s k ≡ p
+  pub high : (r : ℕ) → top ≤ r → roles r ≡ Keeps
+  pub same : (x : State) (r : ℕ) → top ≤ r → value_of C s.regs x r ≡ value_of C s.regs s r
+
+module _ (l : Level) (C : CellMap) (top : ℕ) (roles : ℕ → Role) (s : State) (p k : ℕ) (T : IsTested l C top roles s p k) where
+  pub early : (n : ℕ) → turn l s n < p → n ≤ k
   early n h = go (dec_le n k)
     where
       go : Dec (n ≤ k) → n ≤ k
       go (yes a) = a
-      go (no a) = let b = turns_from l s k n (omega arith) in absurd (omega arith)
+      go (no a) = let b = turns_from l s k n (omega arith) in let c = T.last in absurd (omega arith)
 
   arrival_early : (t n : ℕ) → t ≤ p → IsArrival l s t n → n ≤ k
   arrival_early t n h a = go (dec_le n k)
@@ -129,91 +139,72 @@ module _ (l : Level) (roles : ℕ → Role) (s : State) (p k : ℕ) (tested : al
       go : Dec (n ≤ k) → n ≤ k
       go (yes b) = b
       go (no b) =
-        let c = later_arrival l s k n (omega arith) (goes_from l.header (run s n).next a.at) in
-        let d = a.turn in absurd (omega arith)
+          let c = later_arrival l s k n (omega arith) (goes_from l.header (run s n).next a.at) in
+          let d = a.turn in let e = T.last in absurd (omega arith)
 
-  abbrev at_visit : ℕ → Type 0
-  at_visit n = (arrival_test l roles s (visit l s n) ≡ true) × (implies (nat_lt (turn l s n) p) (path_test l (visit l s n) && (written_test l roles s (visit l s n) && before_test l roles s (visit l s n))) ≡ true)
+  parts : (n : ℕ) → n ≤ k → (arrival_test l C top roles s (visit l s n) ≡ true)
+      × (implies (nat_lt (turn l s n) p) (path_test l (visit l s n) && (written_test l C top roles s (visit l s n) && before_test C top roles s (visit l s n))) ≡ true)
+  parts n h = and_true _ _ (passes_test (turn_test l C top roles s p) l s k n T.tested h)
 
-  tests : (n : ℕ) → n ≤ k → at_visit n
-  tests n h = and_true _ _ (passes_test (turn_test l roles s p) l s k n tested h)
+  in_turn : (n : ℕ) → turn l s n < p → (path_test l (visit l s n) && (written_test l C top roles s (visit l s n) && before_test C top roles s (visit l s n))) ≡ true
+  in_turn n h = implied _ _ (parts n (early n h)).1 (let e : nat_lt (turn l s n) p ≡ true = grind (arith, nat_tests) in e)
 
-  in_turn : (n : ℕ) → turn l s n < p → (path_test l (visit l s n) && (written_test l roles s (visit l s n) && before_test l roles s (visit l s n))) ≡ true
-  in_turn n h = implied _ _ (tests n (early n h)).1 (let e : nat_lt (turn l s n) p ≡ true = grind (arith, nat_tests) in e)
+  path_part : (n : ℕ) → turn l s n < p → path_test l (visit l s n) ≡ true
+  path_part n h = (and_true _ _ (in_turn n h)).0
 
-  written_part : (n : ℕ) → turn l s n < p → written_test l roles s (visit l s n) ≡ true
+  written_part : (n : ℕ) → turn l s n < p → written_test l C top roles s (visit l s n) ≡ true
   written_part n h = (and_true _ _ (and_true _ _ (in_turn n h)).1).0
 
-  before_part : (n : ℕ) → turn l s n < p → before_test l roles s (visit l s n) ≡ true
+  before_part : (n : ℕ) → turn l s n < p → before_test C top roles s (visit l s n) ≡ true
   before_part n h = (and_true _ _ (and_true _ _ (in_turn n h)).1).1
-
-  written_at : (n r : ℕ) → turn l s n < p → arrives l s (suc n) ≡ true → roles r ≡ Private → r < 32 → some_writes no_cells (instr_at s.memory) (walk s n ∷ seen l s n) r ≡ true
-  written_at n r h a e b =
-      let d = below_is 32 (λ q. implies (is_private (roles q)) (some_writes no_cells (instr_at s.memory) (walk s n ∷ seen l s n) q)) r (implied _ _ (written_part n h) a) b in
-      implied _ _ d (ap is_private e)
-
-  before_at : (n r : ℕ) → turn l s n < p → roles r ≡ Private → r < 32 → word_reads no_cells (walk s n) (instr (run s n)) r ≡ true → some_writes no_cells (instr_at s.memory) (seen l s n) r ≡ true
-  before_at n r h e b a =
-      let d = below_is 32 (λ q. implies (is_private (roles q)) (implies (word_reads no_cells (walk s n) (instr (run s n)) q) (some_writes no_cells (instr_at s.memory) (seen l s n) q))) r (before_part n h) b in
-      implied _ _ (implied _ _ d (ap is_private e)) a
 
   pub turns_from_test : ((t : ℕ) → t ≤ p → (n : ℕ) × IsArrival l s t n) → AreTurns l s p
   turns_from_test exist =
-      record {
-        exist = exist;
-        inside = λ n h. (and_true _ _ (and_true _ _ (in_turn n h)).0).0;
-        onward = λ n h. (and_true _ _ (and_true _ _ (in_turn n h)).0).1;
-      }
+      record { exist = exist; inside = λ n h. (and_true _ _ (path_part n h)).0; onward = λ n h. (and_true _ _ (path_part n h)).1 }
 
-  low : (r : ℕ) → roles r ≢ Keeps → r < 32
-  low r h = go (dec_le 32 r)
+  low : (r : ℕ) → roles r ≢ Keeps → r < top
+  low r h = go (dec_le top r)
     where
-      go : Dec (32 ≤ r) → r < 32
-      go (yes a) = absurd (h (high r a))
+      go : Dec (top ≤ r) → r < top
+      go (yes a) = absurd (h (T.high r a))
       go (no a) = omega arith
 
-  register_value : (x : State) (r : ℕ) → r < 32 → value_of no_cells s.regs x r ≡ register x.regs r
-  register_value x r h = let e : nat_lt r 32 ≡ true = grind (arith, nat_tests) in rw e refl
-
-  arrival_values : (t n r : ℕ) → t ≤ p → IsArrival l s t n → r < 32 → value_fits (roles r) (register s.regs r) (register (run s n).regs r) t ≡ true
+  arrival_values : (t n r : ℕ) → t ≤ p → IsArrival l s t n → r < top → value_fits (roles r) (value_of C s.regs s r) (value_of C s.regs (run s n) r) t ≡ true
   arrival_values t n r h a b =
-      let e = implied _ _ (tests n (arrival_early t n h a)).0 (goes_from l.header (run s n).next a.at) in
-      subst (λ x. value_fits (roles r) (register s.regs r) (register (run s n).regs r) x ≡ true) a.turn (below_is 32 (λ q. value_fits (roles q) (register s.regs q) (register (run s n).regs q) (turn l s n)) r e b)
+      let e = implied _ _ (parts n (arrival_early t n h a)).0 (goes_from l.header (run s n).next a.at) in
+      subst (λ x. value_fits (roles r) (value_of C s.regs s r) (value_of C s.regs (run s n) r) x ≡ true) a.turn (below_is top (λ q. value_fits (roles q) (value_of C s.regs s q) (value_of C s.regs (run s n) q) (turn l s n)) r e b)
 
-  eq_from : (a b : ℕ) → (a == b) ≡ true → a ≡ b
-  eq_from a b e = grind (arith, nat_tests)
+  moved_at : (t n r : ℕ) (z : ℤ) → t ≤ p → IsArrival l s t n → roles r ≡ Moves z → r < top → value_of C s.regs (run s n) r ≡ word_of (pos (value_of C s.regs s r) +ℤ z *ℤ pos t)
+  moved_at t n r z h a e b = eq_from _ _ (subst (λ x. value_fits x (value_of C s.regs s r) (value_of C s.regs (run s n) r) t ≡ true) e (arrival_values t n r h a b))
 
-  pub roles_from_test : HaveRoles l no_cells roles s p
+  kept_at : (t n r : ℕ) → t ≤ p → IsArrival l s t n → roles r ≡ Keeps → r < top → value_of C s.regs (run s n) r ≡ value_of C s.regs s r
+  kept_at t n r h a e b = eq_from _ _ (subst (λ x. value_fits x (value_of C s.regs s r) (value_of C s.regs (run s n) r) t ≡ true) e (arrival_values t n r h a b))
+
+  written_at : (n r : ℕ) → turn l s n < p → arrives l s (suc n) ≡ true → roles r ≡ Private → r < top → some_writes C (instr_at s.memory) (walk s n ∷ seen l s n) r ≡ true
+  written_at n r h a e b =
+      let d = below_is top (λ q. implies (is_private (roles q)) (some_writes C (instr_at s.memory) (walk s n ∷ seen l s n) q)) r (implied _ _ (written_part n h) a) b in
+      implied _ _ d (ap is_private e)
+
+  before_at : (n r : ℕ) → turn l s n < p → roles r ≡ Private → r < top → word_reads C (walk s n) (instr (run s n)) r ≡ true → some_writes C (instr_at s.memory) (seen l s n) r ≡ true
+  before_at n r h e b a =
+      let d = below_is top (λ q. implies (is_private (roles q)) (implies (word_reads C (walk s n) (instr (run s n)) q) (some_writes C (instr_at s.memory) (seen l s n) q))) r (before_part n h) b in
+      implied _ _ (implied _ _ d (ap is_private e)) a
+
+  pub roles_from_test : HaveRoles l C roles s p
   roles_from_test =
       record {
-        moved = moved;
+        moved = λ t n r z h a e. moved_at t n r z h a e (low r (λ f. absurd (cc (e, f))));
         kept = kept;
-        written = written;
-        before = before;
+        written = λ n r h a e. written_at n r h a e (low r (λ f. absurd (cc (e, f))));
+        before = λ n r h e a. before_at n r h e (low r (λ f. absurd (cc (e, f)))) a;
       }
     where
-      moved : (t n r : ℕ) (z : ℤ) → t ≤ p → IsArrival l s t n → roles r ≡ Moves z → value_of no_cells s.regs (run s n) r ≡ word_of (pos (value_of no_cells s.regs s r) +ℤ z *ℤ pos t)
-      moved t n r z h a e =
-          let b = low r (λ f. absurd (cc (e, f))) in
-          let c = arrival_values t n r h a b in
-          let d = subst (λ x. value_fits x (register s.regs r) (register (run s n).regs r) t ≡ true) e c in
-          register_value (run s n) r b ∙ eq_from _ _ d ∙ ap (λ x. word_of (pos x +ℤ z *ℤ pos t)) (sym (register_value s r b))
-
-      kept : (t n r : ℕ) → t ≤ p → IsArrival l s t n → roles r ≡ Keeps → value_of no_cells s.regs (run s n) r ≡ value_of no_cells s.regs s r
-      kept t n r h a e = go (dec_le 32 r)
+      kept : (t n r : ℕ) → t ≤ p → IsArrival l s t n → roles r ≡ Keeps → value_of C s.regs (run s n) r ≡ value_of C s.regs s r
+      kept t n r h a e = go (dec_le top r)
         where
-          go : Dec (32 ≤ r) → value_of no_cells s.regs (run s n) r ≡ value_of no_cells s.regs s r
-          go (yes b) = let f : nat_lt r 32 ≡ false = grind (arith, nat_tests) in rw f refl
-          go (no b) =
-              let g : r < 32 = omega arith in
-              let d = subst (λ x. value_fits x (register s.regs r) (register (run s n).regs r) t ≡ true) e (arrival_values t n r h a g) in
-              register_value (run s n) r g ∙ eq_from _ _ d ∙ sym (register_value s r g)
-
-      written : (n r : ℕ) → turn l s n < p → arrives l s (suc n) ≡ true → roles r ≡ Private → some_writes no_cells (instr_at s.memory) (walk s n ∷ seen l s n) r ≡ true
-      written n r h a e = written_at n r h a e (low r (λ f. absurd (cc (e, f))))
-
-      before : (n r : ℕ) → turn l s n < p → roles r ≡ Private → word_reads no_cells (walk s n) (instr (run s n)) r ≡ true → some_writes no_cells (instr_at s.memory) (seen l s n) r ≡ true
-      before n r h e a = before_at n r h e (low r (λ f. absurd (cc (e, f)))) a
+          go : Dec (top ≤ r) → value_of C s.regs (run s n) r ≡ value_of C s.regs s r
+          go (yes b) = T.same (run s n) r b
+          go (no b) = kept_at t n r h a e (omega arith)
 
 -- a loop without cells
 pub no_cells_kept : (l : Level) (s : State) (p : ℕ) → AreCells l no_cells s p
@@ -223,3 +214,6 @@ no_cells_kept l s p =
       touched = λ n k b c h e. absurd (cc e);
       written = λ n k b c h e. absurd (cc e);
     }
+
+pub no_cells_same : (regs : List ℕ) (s x : State) (r : ℕ) → 32 ≤ r → value_of no_cells regs x r ≡ value_of no_cells regs s r
+no_cells_same regs s x r h = let f : nat_lt r 32 ≡ false = grind (arith, nat_tests) in rw f refl

@@ -7,16 +7,15 @@
 --    0x10104  addi  a2, a2, 8
 --    0x10108  addi  a0, a0, 8
 --    0x1010c  bne   a1, a3, 0x100f0
-use Rattle.std.specs.Prelude.{ℕ, ◌≡◌, ◌+◌, ◌*◌, ◌==◌, ◌<◌, ◌↔◌, ◌⊎◌, true, nat_lt, if◌then◌else◌, List, [], ◌∷◌, ◌++◌, pos}
+use Rattle.std.specs.Prelude.{ℕ, ◌≡◌, ◌+◌, ◌*◌, ◌/◌, ◌%◌, ◌==◌, ◌<◌, ◌↔◌, ◌⊎◌, true, if◌then◌else◌, List, [], ◌∷◌, ◌++◌, pos}
 use Rattle.rv64_decode.specs.Area.{Area}
 use Rattle.rv64_decode.specs.declared.outcome.Next.TheVariants.{At}
 use Rattle.loop_data.specs.declared.shape.Level.{Level}
-use Rattle.loop_data.specs.Runs.{State}
-use Rattle.loop_data.specs.Turns.{covers, Reads, Writes}
+use Rattle.loop_data.specs.Runs.{State, walk}
+use Rattle.loop_data.specs.Turns.{turn, covers, Reads, Writes}
 use Rattle.loop_data.specs.Independent.{Role, Keeps, Moves, Private}
 use Rattle.loop_samples.specs.Samples.{series, code_area, data_area}
 
--- a loop without inner loops
 abbrev pub add_loop : Level
 add_loop =
     record {
@@ -48,3 +47,16 @@ abbrev pub add_roles : ℕ → Role
 add_roles r =
     if r == 10 then Moves (pos 8) else if r == 11 then Moves (pos 8) else if r == 12 then Moves (pos 8)
     else if r == 14 then Private else if r == 15 then Private else Keeps
+
+-- at each of the first 160 visits: its turn, and its word
+abbrev pub AddTurns : Type 0
+AddTurns = (n : ℕ) → n < 160 → (turn add_loop arrays n ≡ n / 8) × (walk arrays n ≡ 0x1_00F0 + 4 * (n % 8))
+
+-- turn t loads 8 bytes of each array that is added
+abbrev pub AddReads : Type 0
+AddReads = (t b : ℕ) → t < 19
+    → Reads add_loop arrays t b ↔ ((covers (0x2_0000 + 8 * t) 8 b ≡ true) ⊎ (covers (0x2_00A0 + 8 * t) 8 b ≡ true))
+
+-- and stores 8 bytes of the third
+abbrev pub AddWrites : Type 0
+AddWrites = (t b : ℕ) → t < 19 → Writes add_loop arrays t b ↔ (covers (0x2_0140 + 8 * t) 8 b ≡ true)

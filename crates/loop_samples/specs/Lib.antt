@@ -1,2 +1,4 @@
 pub mod Samples
 pub mod AddLoop
+pub mod ChainLoop
+pub mod SumLoop

@@ -32,3 +32,8 @@ code_area low words =
 abbrev pub data_area : ℕ → List ℕ → Area
 data_area low numbers =
     record { low = low; readable = true; writable = true; executable = false; bytes = number_bytes numbers }
+
+-- a loop of four words, left at its last
+abbrev pub short_loop : Level
+short_loop =
+    record { header = 0x1_0000; body = 0x1_0000 ∷ 0x1_0004 ∷ 0x1_0008 ∷ 0x1_000C ∷ []; back = 0x1_000C; exit = 0x1_000C; depth = 0 }
