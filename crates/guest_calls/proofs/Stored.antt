@@ -1,10 +1,12 @@
 -- Bytes that a read has stored, in two parts.
-use Rattle.std.proofs.Common.{◌≡◌, ℕ, ◌+◌, ◌≤◌, ◌++◌, List, [], take, drop, true, Option, Some, refl, ap, sym, ◌∙◌, arith}
+use Rattle.std.proofs.Common.{◌≡◌, ℕ, ◌+◌, ◌≤◌, ◌++◌, List, [], length, take, drop, true, Option, Some, refl, ap, sym, subst, ◌∙◌, arith}
 use Rattle.std.proofs.lemmas.List.{append-nil, append_assoc, length-append}
 use Rattle.rv64_decode.specs.Area.{Area, writable_of}
 use Rattle.guest_memory.specs.Spans.{all_permitted, with_bytes_at}
 use Rattle.guest_calls.specs.Faults.{IsStored, ChangesInBuffer}
-use Rattle.guest_calls.proofs.Spans.{take_take}
+use Rattle.guest_calls.proofs.Spans.{permitted_fewer, take_take}
+use Rattle.guest_memory.specs.Layout.{KeepAreas}
+use Rattle.guest_memory.proofs.Kept.{span-keeps}
 
 -- the memory with the bytes that were stored
 pub stored_all : (m n : List Area) (addr k : ℕ) (told : Option (List ℕ)) (s : IsStored m addr k told n) → n ≡ with_bytes_at m addr s.bytes
@@ -55,3 +57,11 @@ stored_more m n o addr j k told left a h b =
         ap (λ (v : List ℕ). take j xs ++ v) (sym (append-nil (take k (drop j xs))))
         ∙ take_take j k xs []
         ∙ append-nil (take (j + k) xs)
+
+-- the areas stay
+pub stored_areas : (m n : List Area) (addr k len : ℕ) (told : Option (List ℕ)) → IsStored m addr k told n → k ≤ len → all_permitted writable_of len m addr ≡ true → KeepAreas m n
+stored_areas m n addr k len told s l w =
+    let c = s.count in
+    let P : List Area → Type 0 = λ v. KeepAreas m v in
+    subst P (sym (stored_all m n addr k told s))
+    (span-keeps m addr s.bytes (permitted_fewer writable_of (length s.bytes) len m addr w (omega arith)))

@@ -2,6 +2,7 @@ ghost use Rattle.std.specs.Prelude.{◌≡◌, ◌≢◌, ◌+◌, ◌-◌, ◌^
 ghost use Rattle.rv64_decode.specs.Area.{readable_of, writable_of};
 ghost use Rattle.rv64_decode.specs.Registers.{with_register};
 ghost use Rattle.outside_ports.specs.Ports.{Rose};
+ghost use Rattle.guest_memory.specs.Layout.{KeepAreas};
 ghost use Rattle.guest_memory.specs.Spans.{all_permitted, bytes_at, with_bytes_at};
 ghost use Rattle.guest_calls.specs.Calls.{a1, a2, a7, called, bytes_read, read_answer, bytes_written, write_answer, moved_break};
 ghost use Rattle.guest_calls.specs.Faults.{TellsReader, IsStored, ChangesInBuffer, SendsPart};
@@ -12,7 +13,7 @@ use outside_ports::{Sink, Source};
 use rv64_decode::{Reg, Regs};
 
 /// How many bytes one turn of a read moves at most.
-const PIECE: usize = 512;
+const BUFFER_SIZE: usize = 512;
 
 // The negated numbers of errors, as words.
 const EBADF: u64 = u64::MAX - 8;
@@ -60,14 +61,15 @@ fn fill<I: Source>(mem: &mut Memory, addr: u64, len: u64, input: &mut I) -> Resu
     ensures rest { OnOk result ((xs : List ℕ) → I.rest input.old ≡ Some xs
         → I.rest input.new ≡ Some (drop len xs)) }
     ensures buffer { OnErr result (ChangesInBuffer mem.old addr len mem.new) }
+    ensures areas { KeepAreas mem.old mem.new }
     ensures failed { OnErr result (Rose (I.faults input.old) (I.faults input.new)) }
     ensures fault { IfErr result (λ e. e ≡ PortFault.Read) }
     ensures never_falls { I.faults input.old ≤ I.faults input.new }
 {
-    let mut buffer = [0; PIECE];
+    let mut buffer = [0; BUFFER_SIZE];
     let mut done = 0;
     while done < len {
-        let most = (len - done).min(PIECE as u64) as usize;
+        let most = (len - done).min(BUFFER_SIZE as u64) as usize;
         match read_some(mem, addr + done, &mut buffer[..most], input) {
             Ok(count) => {
                 if count == 0 {
@@ -137,6 +139,7 @@ fn read<I: Source>(
     ensures rest { OnOk result ((xs : List ℕ) → I.rest input.old ≡ Some xs
         → I.rest input.new ≡ Some (drop (length (bytes_read fd addr len mem.old xs)) xs)) }
     ensures buffer { OnErr result (ChangesInBuffer mem.old addr len mem.new) }
+    ensures areas { KeepAreas mem.old mem.new }
     ensures failed { OnErr result (Rose (I.faults input.old) (I.faults input.new)) }
     ensures fault { IfErr result (λ e. e ≡ PortFault.Read) }
     ensures never_falls { I.faults input.old ≤ I.faults input.new }
@@ -219,6 +222,7 @@ pub fn call<I: Source, O: Sink>(
         → I.rest input.new ≡ Some (called regs.old mem.old brk.old xs).rest) }
     ensures written { OnOk result ((xs ys : List ℕ) → O.written out.old ≡ Some ys
         → O.written out.new ≡ Some (ys ++ (called regs.old mem.old brk.old xs).written)) }
+    ensures areas { KeepAreas mem.old mem.new }
     ensures takes_nothing { a7 regs.old ≢ 63 → input.new ≡ input.old }
     ensures sends_nothing { a7 regs.old ≢ 64 → out.new ≡ out.old }
 

@@ -4,6 +4,7 @@
 mod laws;
 mod machine;
 mod running;
+mod table;
 
 pub use laws::{faults_change_nothing, first_ending, input_is_only_taken, output_only_grows};
 pub use machine::{End, Machine};

@@ -1,14 +1,17 @@
-ghost use Rattle.std.specs.Prelude.{◌≡◌, ◌≤◌, ℕ, false, Some, None, IfOk, IsSome, IsNone, unwrap_or};
+ghost use Rattle.std.specs.Prelude.{◌≡◌, ◌≤◌, ℕ, false, Some, None, IfOk, IsSome, IsNone, is_some, is_none, unwrap_or};
 ghost use Rattle.elf_image.specs.Layout.{IsLoadable};
 ghost use Rattle.serial_run.specs.Serial.{State, start_machine, after_call, after_instr, step, executed_of};
+ghost use Rattle.guest_memory.specs.Layout.{KeepAreas};
+ghost use Rattle.serial_run.specs.Table.{instr_at};
 ghost use Rattle.serial_run.specs.Runs.{is_port_fault, configuration_of, call_at, Keeps, Acts, Runs};
 
 use crate::machine::{End, Machine};
+use crate::table::{Entry, PLACES, find_instr, instr_from};
 use elf_image::Elf;
 use guest_calls::{Brk, Going, PortFault, call};
-use guest_memory::{HEAP_SIZE, build, heap_start};
+use guest_memory::{HEAP_SIZE, areas_stay, build, heap_start};
 use outside_ports::{Sink, Source};
-use rv64_decode::{Fault, Instr, Reg, Regs, decode};
+use rv64_decode::{Instr, Reg, Regs};
 use rv64_meaning::{Next, exec};
 use std::alloc::{AllocError, Global};
 
@@ -46,6 +49,7 @@ fn answer_call<I: Source, O: Sink>(m: &mut Machine, input: &mut I, out: &mut O)
     ensures keeps { Keeps
         (configuration_of m.old (I.rest input.old) (I.faults input.old) (O.written out.old) (O.faults out.old))
         (configuration_of m.new (I.rest input.new) (I.faults input.new) (O.written out.new) (O.faults out.new)) }
+    ensures areas { KeepAreas m.old.memory m.new.memory }
 {
     match call(&mut m.regs, &mut m.memory, &mut m.brk, input, out) {
         Ok(Going::On) => m.pc = m.pc.wrapping_add(4),
@@ -55,21 +59,51 @@ fn answer_call<I: Source, O: Sink>(m: &mut Machine, input: &mut I, out: &mut O)
     }
 }
 
-// Executes an instruction that stands at pc.
-fn perform<I: Source, O: Sink>(m: &mut Machine, i: Instr, input: &mut I, out: &mut O)
+// The run ends at `pc`.
+fn end_at(m: &mut Machine, pc: u64, end: End)
+    ensures { m.new ≡ record m.old { pc = pc; ended = Some end } }
+{
+    m.pc = pc;
+    m.ended = Some(end);
+}
+
+// Executes an instruction at `pc`, in place of which the machine may have another, and gives the next
+// one, or none where the machine has an ending then.
+#[inline(always)]
+fn execute<I: Source, O: Sink>(
+    m: &mut Machine,
+    pc: u64,
+    i: Instr,
+    input: &mut I,
+    out: &mut O,
+) -> Option<u64>
     requires { m.old.ended ≡ None }
     ensures acts { Acts (λ s. after_instr s i)
-        (configuration_of m.old (I.rest input.old) (I.faults input.old) (O.written out.old) (O.faults out.old))
-        (configuration_of m.new (I.rest input.new) (I.faults input.new) (O.written out.new) (O.faults out.new)) }
+        (configuration_of (record m.old { pc = pc })
+        (I.rest input.old) (I.faults input.old) (O.written out.old) (O.faults out.old))
+        (configuration_of (record m.new { pc = unwrap_or result m.new.pc })
+        (I.rest input.new) (I.faults input.new) (O.written out.new) (O.faults out.new)) }
     ensures keeps { Keeps
-        (configuration_of m.old (I.rest input.old) (I.faults input.old) (O.written out.old) (O.faults out.old))
-        (configuration_of m.new (I.rest input.new) (I.faults input.new) (O.written out.new) (O.faults out.new)) }
+        (configuration_of (record m.old { pc = pc })
+        (I.rest input.old) (I.faults input.old) (O.written out.old) (O.faults out.old))
+        (configuration_of (record m.new { pc = unwrap_or result m.new.pc })
+        (I.rest input.new) (I.faults input.new) (O.written out.new) (O.faults out.new)) }
+    ensures ended { is_none result ≡ is_some m.new.ended }
+    ensures areas { KeepAreas m.old.memory m.new.memory }
 {
-    let pc = m.pc;
+    areas_stay();
+    m.memory.lies();
     match exec(i, pc, &mut m.regs, &mut m.memory) {
-        Next::At(next) => m.pc = next,
-        Next::Call => answer_call(m, input, out),
-        Next::Fault { kind, addr } => m.ended = Some(End::Faulted { kind, pc, addr }),
+        Next::At(next) => Some(next),
+        Next::Call => {
+            m.pc = pc;
+            answer_call(m, input, out);
+            if m.ended.is_some() { None } else { Some(m.pc) }
+        }
+        Next::Fault { kind, addr } => {
+            end_at(m, pc, End::Faulted { kind, pc, addr });
+            None
+        }
     }
 }
 
@@ -84,20 +118,10 @@ fn advance<I: Source, O: Sink>(m: &mut Machine, input: &mut I, out: &mut O)
         (configuration_of m.old (I.rest input.old) (I.faults input.old) (O.written out.old) (O.faults out.old))
         (configuration_of m.new (I.rest input.new) (I.faults input.new) (O.written out.new) (O.faults out.new)) }
 {
-    let pc = m.pc;
-    match m.memory.fetch(pc) {
-        Err(_) => m.ended = Some(End::Faulted {
-            kind: Fault::Fetch,
-            pc,
-            addr: pc,
-        }),
-        Ok(word) => match decode(word) {
-            None => m.ended = Some(End::Faulted {
-                kind: Fault::Illegal,
-                pc,
-                addr: word as u64,
-            }),
-            Some(i) => perform(m, i, input, out),
+    match instr_from(&m.memory, m.pc) {
+        Err(end) => end_at(m, m.pc, end),
+        Ok(i) => if let Some(next) = execute(m, m.pc, i, input, out) {
+            m.pc = next;
         },
     }
 }
@@ -135,6 +159,57 @@ pub struct Ran {
     pub steps: u64,
 }
 
+// Executes instructions from `first` on, which stands at pc, until the run ends, but at most `fuel` of
+// them, and counts them. Words are decoded once, into a table by their address.
+fn run_from<I: Source, O: Sink>(
+    m: &mut Machine,
+    first: Instr,
+    fuel: u64,
+    input: &mut I,
+    out: &mut O,
+) -> Ran
+    requires running { m.old.ended ≡ None }
+    requires first { instr_at m.old.memory m.old.pc ≡ Some first }
+    ensures end { result.end ≡ unwrap_or m.new.ended End.Spent }
+    ensures steps { (s : State) → m.old ≡ s.machine → I.rest input.old ≡ Some s.rest
+        → is_port_fault m.new.ended ≡ false → result.steps ≡ executed_of fuel s }
+    ensures within { result.steps ≤ fuel }
+    ensures runs { Runs fuel
+        (configuration_of m.old (I.rest input.old) (I.faults input.old) (O.written out.old) (O.faults out.old))
+        (configuration_of m.new (I.rest input.new) (I.faults input.new) (O.written out.new) (O.faults out.new)) }
+    ensures keeps { Keeps
+        (configuration_of m.old (I.rest input.old) (I.faults input.old) (O.written out.old) (O.faults out.old))
+        (configuration_of m.new (I.rest input.new) (I.faults input.new) (O.written out.new) (O.faults out.new)) }
+{
+    areas_stay();
+    m.memory.lies();
+    let mut pc = m.pc;
+    let mut table = [Entry {
+        at: pc,
+        instr: first,
+    }; PLACES];
+    for k in 0..fuel {
+        match find_instr(&m.memory, &mut table, pc) {
+            Ok(instr) => match execute(m, pc, instr, input, out) {
+                Some(next) => pc = next,
+                None => return Ran {
+                    end: m.ended.unwrap_or(End::Spent),
+                    steps: k + 1,
+                },
+            },
+            Err(end) => {
+                end_at(m, pc, end);
+                return Ran { end, steps: k + 1 };
+            }
+        }
+    }
+    m.pc = pc;
+    Ran {
+        end: End::Spent,
+        steps: fuel,
+    }
+}
+
 /// Executes instructions until the run ends, but at most `fuel` of them, and counts them. The ending
 /// is `Spent` exactly where these have given none; the machine then has no ending. After a fault of
 /// the source or the sink the machine stands at the call in which it was met, and nothing has been read
@@ -165,14 +240,18 @@ pub fn run_counted<I: Source, O: Sink>(
     if let Some(end) = m.ended {
         return Ran { end, steps: 0 };
     }
-    for k in 0..fuel {
-        if let Some(end) = step_serial(m, input, out) {
-            return Ran { end, steps: k + 1 };
-        }
+    if fuel == 0 {
+        return Ran {
+            end: End::Spent,
+            steps: 0,
+        };
     }
-    Ran {
-        end: End::Spent,
-        steps: fuel,
+    match instr_from(&m.memory, m.pc) {
+        Ok(first) => run_from(m, first, fuel, input, out),
+        Err(end) => {
+            end_at(m, m.pc, end);
+            Ran { end, steps: 1 }
+        }
     }
 }
 

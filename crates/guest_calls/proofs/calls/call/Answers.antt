@@ -1,5 +1,6 @@
 use Rattle.std.proofs.Common.{◌≡◌, sym, ◌∙◌}
 use Rattle.guest_calls.specs.Calls.{a7}
+use Rattle.guest_memory.proofs.Kept.{keep_self}
 use Rattle.guest_calls.proofs.Table.{register_read, written_call}
 use Rattle.guest_calls.proofs.calls.call.Goals as goal
 
@@ -13,3 +14,18 @@ returns-in-Err-write-clause-prefix g c = λ xs ys h.
     let number : a7 regs ≡ 64 = sym (register_read regs c.get.result c.new-4.result 17 c.get.ensures c.new-4.ensures) ∙ c.in-64.is in
     let sent = rw (first, second, third) at p.are in
     record { count = p.count; are = rw (written_call c.args.regs.now c.args.mem.now c.args.brk.now xs number) sent }
+
+pub returns-in-Ok-write-clause-areas : goal.returns-in-Ok-write-clause-areas
+returns-in-Ok-write-clause-areas g c = keep_self _
+
+pub returns-in-Err-write-clause-areas : goal.returns-in-Err-write-clause-areas
+returns-in-Err-write-clause-areas g c = keep_self _
+
+pub returns-in-214-clause-areas : goal.returns-in-214-clause-areas
+returns-in-214-clause-areas g c = keep_self _
+
+pub returns-in-93-clause-areas : goal.returns-in-93-clause-areas
+returns-in-93-clause-areas g c = keep_self _
+
+pub returns-in_default-clause-areas : goal.returns-in_default-clause-areas
+returns-in_default-clause-areas g c = keep_self _

@@ -3,7 +3,7 @@ use Rattle.std.proofs.lemmas.List.{length-take, length-drop, drop-drop, append-n
 use Rattle.rv64_decode.specs.Area.{writable_of}
 use Rattle.guest_memory.specs.Spans.{with_bytes_at}
 use Rattle.guest_calls.proofs.Spans.{permitted_fewer, permitted_rest, short_drop, taken_all, at_end_rest}
-use Rattle.guest_calls.proofs.Stored.{stored_none, stored_more, stored_told, stored_part}
+use Rattle.guest_calls.proofs.Stored.{stored_none, stored_more, stored_told, stored_part, stored_areas}
 use Rattle.guest_calls.proofs.calls.fill.Goals as goal
 
 pub read_some-requires-clause-writable : goal.read_some-requires-clause-writable
@@ -81,3 +81,16 @@ returns-clause-memory g c = λ xs h.
     let all : c.loop-done.done ≡ c.args.len = omega arith in
     stored_told _ _ _ _ _ xs c.loop-done.invariant.stored h
     ∙ ap (λ (k : ℕ). with_bytes_at c.args.mem.now c.args.addr (take k xs)) all
+
+pub returns-then-count-eq0-clause-areas : goal.returns-then-count-eq0-clause-areas
+returns-then-count-eq0-clause-areas g c =
+    let more = stored_more _ _ _ _ _ _ _ _ c.loop-done.invariant.stored c.loop-done.invariant.rest c.in-Ok.ensures.stored in
+    let within = c.loop-done.invariant.within in
+    stored_areas _ _ _ _ c.args.len _ more (omega (arith, c.if-count-eq0.true)) c.requires.writable
+
+pub returns-in-Err-clause-areas : goal.returns-in-Err-clause-areas
+returns-in-Err-clause-areas g c =
+    rw c.in-Err.ensures.stays (stored_areas _ _ _ _ _ _ c.loop-done.invariant.stored c.loop-done.invariant.within c.requires.writable)
+
+pub returns-clause-areas : goal.returns-clause-areas
+returns-clause-areas g c = stored_areas _ _ _ _ _ _ c.loop-done.invariant.stored c.loop-done.invariant.within c.requires.writable
