@@ -16,13 +16,15 @@ begun [] b h e = absurd (omega arith)
 begun (first ∷ others) b h e = let other : eqb first 48 ≡ false = grind (arith, nat_tests) in rw other e
 
 -- the number of a word of digits, by whether it passes the limit
-number_within : (word : List ℕ) (limit : ℕ) → 49 ≤ get_or word 0 0 → all_ascii_digits word ≡ true → digits_value 10 word ≤ limit → number_up_to limit word ≡ Some (digits_value 10 word)
+number_within : (word : List ℕ) (limit : ℕ) → 49 ≤ get_or word 0 0 → all_ascii_digits word ≡ true
+    → digits_value 10 word ≤ limit → number_up_to limit word ≡ Some (digits_value 10 word)
 number_within word limit h e within =
     let is = begun word true h e in
     let test : leb (digits_value 10 word) limit ≡ true = le-leb (digits_value 10 word) limit within in
     simp (is, test)
 
-number_above : (word : List ℕ) (limit : ℕ) (b : Bool) → 49 ≤ get_or word 0 0 → all_ascii_digits word ≡ b → (b ≡ true → limit < digits_value 10 word) → number_up_to limit word ≡ None
+number_above : (word : List ℕ) (limit : ℕ) (b : Bool) → 49 ≤ get_or word 0 0 → all_ascii_digits word ≡ b
+    → (b ≡ true → limit < digits_value 10 word) → number_up_to limit word ≡ None
 number_above word limit true h e above =
     let is = begun word true h e in
     let long = above refl in
@@ -38,7 +40,8 @@ passes : (limit value : ℕ) → limit < 2 ^ 64 → (value < 2 ^ 64 → ⊥) →
 passes limit value fits none = omega arith
 
 -- what is read of it
-pub read_within : {E : Type 0} (word : List ℕ) (limit n : ℕ) (r : Result ℕ E) → 49 ≤ get_or word 0 0 → ParsesUnsigned 64 10 word r → r ≡ Ok n → n ≤ limit → Some n ≡ number_up_to limit word
+pub read_within : {E : Type 0} (word : List ℕ) (limit n : ℕ) (r : Result ℕ E) → 49 ≤ get_or word 0 0
+    → ParsesUnsigned 64 10 word r → r ≡ Ok n → n ≤ limit → Some n ≡ number_up_to limit word
 read_within {E} word limit n r h parsed e within =
     let read = parse_plain digits 64 word r parsed (omega arith) in
     let p = rw e at read in
@@ -46,12 +49,14 @@ read_within {E} word limit n r h parsed e within =
     ap (λ (v : ℕ). Some v) same ∙ sym (number_within word limit h p.0.0 (rw (← same) within))
 
 not_read : (word : List ℕ) (limit : ℕ) (b : Bool) → 49 ≤ get_or word 0 0 → limit < 2 ^ 64 → all_ascii_digits word ≡ b
-    → ((all_ascii_digits word ≡ true) × (0 < length word) × (digits_value 10 word < 2 ^ 64) → ⊥) → number_up_to limit word ≡ None
+    → ((all_ascii_digits word ≡ true) × (0 < length word) × (digits_value 10 word < 2 ^ 64) → ⊥)
+    → number_up_to limit word ≡ None
 not_read word limit b h fits e none =
     number_above word limit b h e
     (λ t. passes limit (digits_value 10 word) fits (λ small. none (e ∙ t, has_digit word h, small)))
 
-pub read_none : {E : Type 0} (word : List ℕ) (limit : ℕ) (error : E) (r : Result ℕ E) → 49 ≤ get_or word 0 0 → limit < 2 ^ 64 → ParsesUnsigned 64 10 word r → r ≡ Err error → None ≡ number_up_to limit word
+pub read_none : {E : Type 0} (word : List ℕ) (limit : ℕ) (error : E) (r : Result ℕ E) → 49 ≤ get_or word 0 0
+    → limit < 2 ^ 64 → ParsesUnsigned 64 10 word r → r ≡ Err error → None ≡ number_up_to limit word
 read_none {E} word limit error r h fits parsed e =
     let read = parse_plain digits 64 word r parsed (omega arith) in
     let p = rw e at read in

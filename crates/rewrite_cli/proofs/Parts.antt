@@ -10,8 +10,11 @@ take_and_more (suc j) k (x ∷ xs) =
     let e : suc j + k ≡ suc (j + k) = omega arith in rw e (ap (λ (ys : List ℕ). x ∷ ys) (take_and_more j k xs))
 
 -- what is written, and then a first part of the bytes that are left
-pub written_more : (j k : ℕ) (zs bytes : List ℕ) → (zs ++ take j bytes) ++ take k (take (length bytes - j) (drop j bytes)) ≡ zs ++ take (j + k) bytes
+pub written_more : (j k : ℕ) (zs bytes : List ℕ)
+    → (zs ++ take j bytes) ++ take k (take (length bytes - j) (drop j bytes)) ≡ zs ++ take (j + k) bytes
 written_more j k zs bytes =
     let d = length-drop j bytes in
-    let whole : take (length bytes - j) (drop j bytes) ≡ drop j bytes = take_all (length bytes - j) (drop j bytes) (omega arith) in
-    rw whole (append_assoc zs (take j bytes) (take k (drop j bytes)) ∙ ap (λ (ys : List ℕ). zs ++ ys) (take_and_more j k bytes))
+    let whole : take (length bytes - j) (drop j bytes) ≡ drop j bytes = take_all (length bytes - j) (drop j bytes)
+    (omega arith) in
+    rw whole (append_assoc zs (take j bytes) (take k (drop j bytes))
+    ∙ ap (λ (ys : List ℕ). zs ++ ys) (take_and_more j k bytes))

@@ -5,4 +5,6 @@ pub mod Counts
 pub mod Refusals
 pub mod Texts
 pub mod Listing
+pub mod Needs
 pub mod Effect
+pub mod Answer

@@ -35,7 +35,9 @@ fault_text (LoadFault why) = codes "load-" ++ why_text why
 fault_text (StoreRefused why) = codes "store-" ++ why_text why
 
 abbrev pub usage_text : List ℕ
-usage_text = codes "usage: list FILE | rewrite FILE NEW | run FILE HARTS [FUEL [DUMP]] | replay FILE HARTS ORDER | make KIND N NEW"
+usage_text =
+    codes "usage: list FILE | rewrite FILE NEW | run FILE HARTS [FUEL [DUMP]] | replay FILE HARTS ORDER"
+    ++ codes " | make KIND N NEW"
 
 -- the counts of a run by one hart
 abbrev pub count_lines : ℕ → List ℕ
@@ -43,7 +45,8 @@ count_lines steps = line (codes "hart 0 instructions " ++ decimal steps) ++ line
 
 -- what is said of what a command has made
 abbrev pub done_text : Counts → List ℕ
-done_text (Image entries words) = line (codes "rewritten entries " ++ (decimal entries ++ (codes " words " ++ decimal words)))
+done_text (Image entries words) = line (codes "rewritten entries " ++
+    (decimal entries ++ (codes " words " ++ decimal words)))
 done_text _ = []
 
 -- the report of an answer
@@ -60,10 +63,3 @@ report_of counts StoreFault = line (codes "store-fault")
 report_of counts ReadFault = line (codes "read-fault")
 report_of counts WriteFault = []
 report_of counts OutOfMemory = line (codes "out-of-memory")
-
--- a first part was written of the report of this answer, or of that to want of memory for it
-pub record IsReportPart (before : List ℕ) (counts : Counts) (status : Status) (written : Option (List ℕ)) : Type 0 where
-  pub replaced : Status
-  pub is : (replaced ≡ status) ⊎ (replaced ≡ OutOfMemory)
-  pub count : ℕ
-  pub are : written ≡ Some (before ++ take count (report_of counts replaced))

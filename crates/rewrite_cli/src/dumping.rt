@@ -1,10 +1,20 @@
-ghost use Rattle.std.specs.Prelude.{◌≡◌, IfOk};
+ghost use Rattle.std.specs.Prelude.{◌≡◌, ◌≤◌, ◌⊎◌, Some, IfOk, true, false};
 ghost use Rattle.std.specs.Option.{option_copied};
+ghost use Rattle.outside_ports.specs.Ports.{Files, Rose};
+ghost use Rattle.rewrite_cli.specs.Counts.{of_steps};
+ghost use Rattle.rewrite_cli.specs.Status.{is_from_outside};
+ghost use Rattle.rewrite_cli.specs.Texts.{report_of};
+ghost use Rattle.rewrite_cli.specs.Needs.{SameBut, names_of};
 ghost use Rattle.rewrite_cli.specs.Effect.{dump_of};
-ghost use Rattle.rewrite_cli.specs.Reading.{dump_shown};
+ghost use Rattle.rewrite_cli.specs.Reading.{dump_shown, text_of};
+ghost use Rattle.rewrite_cli.specs.Answer.{AreSaved, StayBut};
 
+use crate::counts::Counts;
+use crate::reply::{Reply, reply_with};
+use crate::saving::save_and_reply;
 use crate::status::Status;
 use guest_memory::Memory;
+use outside_ports::Store;
 use std::alloc::{AllocError, Global};
 
 /// The memory after a run, to be saved under a name.
@@ -15,9 +25,9 @@ pub struct Dump<'a> {
     pub bytes: Vec<u8>,
 }
 
-/// What is saved of the memory after a run: all of it, where a name is given and the run has come to an
-/// ending.
-pub fn dump_under<'a>(
+// What is saved of the memory after a run: all of it, where a name is given and the run has come to an
+// ending.
+fn dump_under<'a>(
     alloc: Global,
     name: Option<&'a str>,
     status: &Status,
@@ -34,5 +44,41 @@ pub fn dump_under<'a>(
             Ok(Some(Dump { name, bytes }))
         }
         _ => Ok(None),
+    }
+}
+
+/// The reply of a run that has given this answer after so many instructions. Its memory is saved first
+/// where a name is given and the run has come to an ending.
+pub fn save_memory<S: Store>(
+    alloc: Global,
+    status: Status,
+    steps: u64,
+    name: Option<&str>,
+    memory: &Memory,
+    store: &mut S,
+) -> Reply
+    requires { is_from_outside status ≡ false }
+    ensures kind { (result.status ≡ status) ⊎ ((result.status ≡ Status.StoreFault)
+        ⊎ (result.status ≡ Status.OutOfMemory)) }
+    ensures text { text_of result ≡ report_of (of_steps steps) result.status }
+    ensures saved { (m : Files) → S.files store.old ≡ Some m → result.status ≡ status
+        → AreSaved m (S.files store.new) (dump_of (option_copied name.entry) status memory.now) }
+    ensures stays { (m : Files) → S.files store.old ≡ Some m → is_from_outside result.status ≡ true
+        → StayBut result.status m (S.files store.new) (dump_of (option_copied name.entry) status memory.now) }
+    ensures others { (m : Files) → S.files store.old ≡ Some m
+        → SameBut m (S.files store.new) (names_of (option_copied name.entry)) }
+    ensures store_fault { result.status ≡ Status.StoreFault → Rose (S.faults store.old) (S.faults store.new) }
+    ensures never_falls { S.faults store.old ≤ S.faults store.new }
+{
+    let counts = Counts::Steps(steps);
+    let Ok(dump) = dump_under(alloc, name, &status, memory) else {
+        return Reply::from_outside(alloc, Status::OutOfMemory);
+    };
+    match &dump {
+        Some(dump) => {
+            let bytes = dump.bytes.as_slice();
+            save_and_reply(alloc, status, &counts, dump.name, bytes, store)
+        }
+        None => reply_with(alloc, status, &counts),
     }
 }

@@ -1,7 +1,7 @@
-ghost use Rattle.std.specs.Prelude.{◌≡◌, ◌≤◌, ◌⊎◌, ℕ, List, Some, true, false, IfOk, IfErr, IsErr};
-ghost use Rattle.outside_ports.specs.Ports.{Files, Rose, Lacks};
-ghost use Rattle.rewrite_cli.specs.Status.{is_from_outside};
-ghost use Rattle.rewrite_cli.specs.Effect.{Effect, only, of_content, is_refusal, is_listed, status_of_refusal};
+ghost use Rattle.std.specs.Prelude.{◌≡◌, ◌≤◌, ◌⊎◌, Some, true, false, IfOk, IfErr, length};
+ghost use Rattle.outside_ports.specs.Ports.{Files, Rose, Lacks, PassesLimit};
+ghost use Rattle.rewrite_cli.specs.Status.{is_from_outside, is_refusal};
+ghost use Rattle.rewrite_cli.specs.Effect.{status_of_refusal, load_limit};
 
 use crate::refusals::refusal_from;
 use crate::status::{Reason, Status};
@@ -14,13 +14,13 @@ const LOAD_LIMIT: u64 = 84_934_656;
 
 /// All bytes of a file, or the answer in their place.
 pub fn load<S: Store>(alloc: Global, store: &mut S, file: &str) -> Result<Vec<u8>, Status>
-    ensures content { IfOk result (λ v. (m : Files) → S.files store.old ≡ Some m → (act : List ℕ → Effect) (xs : List ℕ) → of_content act xs (m file.now) ≡ act v.items) }
     ensures bytes { IfOk result (λ v. (m : Files) → S.files store.old ≡ Some m → m file.now ≡ Some v.items) }
-    ensures refused { IfErr result (λ e. is_from_outside e ≡ false → (m : Files) → S.files store.old ≡ Some m → (act : List ℕ → Effect) (xs : List ℕ) → of_content act xs (m file.now) ≡ only e xs) }
-    ensures failed { result ≡ Err Status.StoreFault → Rose (S.faults store.old) (S.faults store.new) ⊎ Lacks (S.files store.old) file.now }
+    ensures within { IfOk result (λ v. length v.items ≤ load_limit) }
+    ensures refused { IfErr result (λ e. is_from_outside e ≡ false → (m : Files) → S.files store.old ≡ Some m
+        → (e ≡ Status.Refused (Reason.LoadTooLong load_limit)) × PassesLimit (m file.now) load_limit) }
+    ensures failed { IfErr result (λ e. e ≡ Status.StoreFault → Rose (S.faults store.old) (S.faults store.new)
+        ⊎ Lacks (S.files store.old) file.now) }
     ensures kind { IfErr result (λ e. is_refusal e ≡ true) }
-    ensures unlisted { IfErr result (λ e. is_listed e ≡ false) }
-    ensures missing { Lacks (S.files store.old) file.now → IsErr result }
     ensures same { S.files store.new ≡ S.files store.old }
     ensures never_falls { S.faults store.old ≤ S.faults store.new }
 {

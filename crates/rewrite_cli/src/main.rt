@@ -4,9 +4,11 @@
 mod command;
 mod counts;
 mod dumping;
+pub mod laws;
 mod listing;
 mod loading;
 mod refusals;
+mod reply;
 mod report;
 mod rewriting;
 mod run;

@@ -1,7 +1,7 @@
 ghost use Rattle.std.specs.Prelude.{◌≡◌, ◌+◌, ◌-◌, ◌<◌, ◌≤◌, ◌++◌, ◌⊎◌, ◌≢◌, ℕ, List, Some, take, string_bytes, codes, decimal, IfOk, OnOk, OnErr};
 ghost use Rattle.outside_ports.specs.Ports.{Rose};
 ghost use Rattle.rewrite_cli.specs.Counts.{of_steps};
-ghost use Rattle.rewrite_cli.specs.Texts.{report_of, done_text, fault_text, why_text, count_lines, line, IsReportPart};
+ghost use Rattle.rewrite_cli.specs.Texts.{report_of, done_text, fault_text, why_text, count_lines, line};
 
 use crate::counts::Counts;
 use crate::refusals::refusal_line;
@@ -80,7 +80,8 @@ fn fault_report(
 
 // What an image adds to its original.
 fn image_text(alloc: Global, entries: u32, words: u32) -> Result<String, AllocError>
-    ensures { IfOk result (λ s. string_bytes s ≡ line (codes "rewritten entries " ++ (decimal entries ++ (codes " words " ++ decimal words)))) }
+    ensures { IfOk result (λ s. string_bytes s ≡ line (codes "rewritten entries " ++ (decimal entries ++
+        (codes " words " ++ decimal words)))) }
 {
     let mut text = format!(in alloc; "rewritten entries {entries}")?;
     let added = format!(in alloc; " words {words}\n")?;
@@ -119,8 +120,10 @@ pub fn report_text(alloc: Global, status: &Status, counts: &Counts) -> Result<St
 
 /// Appends all of these bytes; after a fault a first part of them.
 pub fn write_all<P: Sink>(report: &mut P, bytes: &[u8]) -> Result<(), Failed>
-    ensures written { OnOk result ((zs : List ℕ) → P.written report.old ≡ Some zs → P.written report.new ≡ Some (zs ++ bytes.now)) }
-    ensures prefix { OnErr result ((zs : List ℕ) → P.written report.old ≡ Some zs → (k : ℕ) × (P.written report.new ≡ Some (zs ++ take k bytes.now))) }
+    ensures written { OnOk result ((zs : List ℕ) → P.written report.old ≡ Some zs
+        → P.written report.new ≡ Some (zs ++ bytes.now)) }
+    ensures prefix { OnErr result ((zs : List ℕ) → P.written report.old ≡ Some zs → (k : ℕ)
+        × (P.written report.new ≡ Some (zs ++ take k bytes.now))) }
     ensures failed { OnErr result (Rose (P.faults report.old) (P.faults report.new)) }
     ensures never_falls { P.faults report.old ≤ P.faults report.new }
 {
@@ -132,38 +135,4 @@ pub fn write_all<P: Sink>(report: &mut P, bytes: &[u8]) -> Result<(), Failed>
         }
     }
     Ok(())
-}
-
-const OUT_OF_MEMORY: &[u8] = b"out-of-memory\n";
-
-/// Writes the report of this answer, and says what the answer is now: `WriteFault` stands in its
-/// place where the report is not written as a whole.
-pub fn write_answer<P: Sink>(report: &mut P, bytes: &[u8], status: Status) -> Status
-    ensures answer { (result ≡ status) ⊎ (result ≡ Status.WriteFault) }
-    ensures written { (zs : List ℕ) → result ≢ Status.WriteFault → P.written report.old ≡ Some zs → P.written report.new ≡ Some (zs ++ bytes.now) }
-    ensures prefix { (zs : List ℕ) → status ≢ Status.WriteFault → result ≡ Status.WriteFault → P.written report.old ≡ Some zs → (k : ℕ) × (P.written report.new ≡ Some (zs ++ take k bytes.now)) }
-    ensures write_fault { status ≢ Status.WriteFault → result ≡ Status.WriteFault → Rose (P.faults report.old) (P.faults report.new) }
-    ensures never_falls { P.faults report.old ≤ P.faults report.new }
-{
-    match write_all(report, bytes) {
-        Ok(()) => status,
-        Err(_) => Status::WriteFault,
-    }
-}
-
-/// Answers with this status: writes its report, and says what the answer is now. `OutOfMemory` stands
-/// in its place where there is no memory for the report, and `WriteFault` where the report is not
-/// written as a whole.
-pub fn answer<P: Sink>(alloc: Global, report: &mut P, status: Status, counts: &Counts) -> Status
-    requires { status ≢ Status.WriteFault }
-    ensures answer { (result ≡ status) ⊎ ((result ≡ Status.OutOfMemory) ⊎ (result ≡ Status.WriteFault)) }
-    ensures reported { (zs : List ℕ) → result ≢ Status.WriteFault → P.written report.old ≡ Some zs → P.written report.new ≡ Some (zs ++ report_of counts.now result) }
-    ensures prefix { (zs : List ℕ) → result ≡ Status.WriteFault → P.written report.old ≡ Some zs → IsReportPart zs counts.now status (P.written report.new) }
-    ensures write_fault { result ≡ Status.WriteFault → Rose (P.faults report.old) (P.faults report.new) }
-    ensures never_falls { P.faults report.old ≤ P.faults report.new }
-{
-    match report_text(alloc, &status, counts) {
-        Ok(text) => write_answer(report, text.as_bytes(), status),
-        Err(_) => write_answer(report, OUT_OF_MEMORY, Status::OutOfMemory),
-    }
 }

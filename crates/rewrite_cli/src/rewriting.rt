@@ -1,24 +1,26 @@
-ghost use Rattle.std.specs.Prelude.{◌≡◌, ◌≢◌, ◌<◌, ◌≤◌, ◌++◌, ◌⊎◌, ℕ, List, [], Ok, Some, true, false, IfOk, IfErr, IsErr};
-ghost use Rattle.outside_ports.specs.Ports.{Files, Rose, Lacks, SavedIn, SameButIn};
+ghost use Rattle.std.specs.Prelude.{◌≡◌, ◌≢◌, ◌≤◌, ◌⊎◌, ℕ, List, Ok, Some, true, false, IfOk, IfErr};
+ghost use Rattle.outside_ports.specs.Ports.{Files, Rose, Lacks};
 ghost use Rattle.rewriter.specs.Rewriting.{rewriting_of};
-ghost use Rattle.rewrite_cli.specs.Status.{is_from_outside, keeps_files};
-ghost use Rattle.rewrite_cli.specs.Texts.{report_of};
-ghost use Rattle.rewrite_cli.specs.declared.counts.Counts.{Counts as Shown};
-ghost use Rattle.rewrite_cli.specs.Effect.{of_content, rewrite_of, of_rewriting, counts_of, only, is_refusal, AreSaved, IsPartOfReport};
+ghost use Rattle.rewrite_cli.specs.Status.{is_from_outside, is_refusal};
+ghost use Rattle.rewrite_cli.specs.Words.{Rewrite};
+ghost use Rattle.rewrite_cli.specs.Reading.{text_of};
+ghost use Rattle.rewrite_cli.specs.Effect.{Does, RewritesFile, counts_of, image_saved, only};
+ghost use Rattle.rewrite_cli.specs.Answer.{IsDone, Stream, outside, stored};
 
 use crate::counts::{Counts, NO_COUNTS};
 use crate::loading::{load, refusal};
-use crate::report::answer;
-use crate::saving::save_and_answer;
+use crate::reply::{Reply, reply_with};
+use crate::saving::save_and_reply;
 use crate::status::Status;
-use outside_ports::{Sink, Store};
+use outside_ports::Store;
 use rewriter::{Rewritten, rewrite};
 use std::alloc::Global;
 
 // The image of the executable in these bytes.
 fn image_of(alloc: Global, bytes: &[u8]) -> Result<Rewritten, Status>
     ensures made { IfOk result (λ made. rewriting_of bytes.now ≡ Ok made) }
-    ensures refused { IfErr result (λ e. is_from_outside e ≡ false → (new xs : List ℕ) → rewrite_of new xs bytes.now ≡ only e xs) }
+    ensures refused { IfErr result (λ e. is_from_outside e ≡ false → (new xs : List ℕ)
+        → RewritesFile new xs bytes.now (only e xs)) }
     ensures kind { IfErr result (λ e. (is_refusal e ≡ true) × (e ≢ Status.StoreFault)) }
 {
     match rewrite(alloc, bytes) {
@@ -29,11 +31,14 @@ fn image_of(alloc: Global, bytes: &[u8]) -> Result<Rewritten, Status>
 
 // The image of the executable under a name.
 fn load_rewritten<S: Store>(alloc: Global, store: &mut S, file: &str) -> Result<Rewritten, Status>
-    ensures made { IfOk result (λ made. (m : Files) → S.files store.old ≡ Some m → (new xs : List ℕ) → of_content (rewrite_of new xs) xs (m file.now) ≡ of_rewriting new xs (Ok made)) }
-    ensures refused { IfErr result (λ e. is_from_outside e ≡ false → (m : Files) → S.files store.old ≡ Some m → (new xs : List ℕ) → of_content (rewrite_of new xs) xs (m file.now) ≡ only e xs) }
-    ensures failed { result ≡ Err Status.StoreFault → Rose (S.faults store.old) (S.faults store.new) ⊎ Lacks (S.files store.old) file.now }
+    ensures made { IfOk result (λ made. (m : Files) → S.files store.old ≡ Some m → (new xs : List ℕ)
+        → Does (Some (Rewrite file.now new)) m xs (image_saved new xs made)) }
+    ensures refused { IfErr result (λ e. is_from_outside e ≡ false → (m : Files) → S.files store.old ≡ Some m
+        → (new xs : List ℕ)
+        → Does (Some (Rewrite file.now new)) m xs (only e xs)) }
+    ensures failed { IfErr result (λ e. e ≡ Status.StoreFault → Rose (S.faults store.old) (S.faults store.new)
+        ⊎ Lacks (S.files store.old) file.now) }
     ensures kind { IfErr result (λ e. is_refusal e ≡ true) }
-    ensures missing { Lacks (S.files store.old) file.now → IsErr result }
     ensures same { S.files store.new ≡ S.files store.old }
     ensures never_falls { S.faults store.old ≤ S.faults store.new }
 {
@@ -53,35 +58,19 @@ fn counts_from(made: &Rewritten) -> Counts
     }
 }
 
-/// Rewrites the executable of a name, saves its image under `new`, and answers.
-pub fn rewrite_file<S: Store, P: Sink>(
-    alloc: Global,
-    file: &str,
-    new: &str,
-    store: &mut S,
-    report: &mut P,
-) -> Status
-    ensures answer { (m : Files) (xs : List ℕ) → S.files store.old ≡ Some m → is_from_outside result ≡ false → result ≡ (of_content (rewrite_of new.now xs) xs (m file.now)).status }
-    ensures report { (m : Files) (xs zs : List ℕ) → S.files store.old ≡ Some m → is_from_outside result ≡ false → P.written report.old ≡ Some zs → P.written report.new ≡ Some (zs ++ report_of (of_content (rewrite_of new.now xs) xs (m file.now)).counts result) }
-    ensures saved { (m : Files) (xs : List ℕ) → S.files store.old ≡ Some m → is_from_outside result ≡ false → AreSaved m (S.files store.new) (of_content (rewrite_of new.now xs) xs (m file.now)).saved }
-    ensures nothing_else { (m : Files) (xs : List ℕ) → S.files store.old ≡ Some m → ((of_content (rewrite_of new.now xs) xs (m file.now)).output ≡ []) × ((of_content (rewrite_of new.now xs) xs (m file.now)).rest ≡ xs) }
-    ensures report_of_answer { (zs : List ℕ) → result ≢ Status.WriteFault → P.written report.old ≡ Some zs → (counts : Shown) × (P.written report.new ≡ Some (zs ++ report_of counts result)) }
-    ensures report_so_far { (m : Files) (xs zs : List ℕ) → S.files store.old ≡ Some m → result ≡ Status.WriteFault → P.written report.old ≡ Some zs → IsPartOfReport zs (of_content (rewrite_of new.now xs) xs (m file.now)) (P.written report.new) }
-    ensures no_usage { result ≢ Status.Usage }
-    ensures store_fault { result ≡ Status.StoreFault → Rose (S.faults store.old) (S.faults store.new) ⊎ Lacks (S.files store.old) file.now }
-    ensures read_fault { result ≢ Status.ReadFault }
-    ensures write_fault { result ≡ Status.WriteFault → Rose (P.faults report.old) (P.faults report.new) }
-    ensures others { (m : Files) → S.files store.old ≡ Some m → SameButIn m (S.files store.new) new.now }
-    ensures files_stay { keeps_files result ≡ true → S.files store.new ≡ S.files store.old }
-    ensures missing_file { Lacks (S.files store.old) file.now → S.files store.new ≡ S.files store.old }
-    ensures saved_or_same { (m : Files) (xs : List ℕ) → S.files store.old ≡ Some m → result ≡ Status.WriteFault → Rose (S.faults store.old) (S.faults store.new) ⊎ ((S.files store.new ≡ Some m) ⊎ AreSaved m (S.files store.new) (of_content (rewrite_of new.now xs) xs (m file.now)).saved) }
+/// Rewrites the executable of a name, and saves its image under `new`.
+pub fn rewrite_file<S: Store>(alloc: Global, file: &str, new: &str, store: &mut S) -> Reply
+    ensures { (input output : Stream) →
+        let before = outside (stored (S.files store.old) (S.faults store.old)) input output in
+        let after = outside (stored (S.files store.new) (S.faults store.new)) input output in
+        IsDone (Some (Rewrite file.now new.now)) before after result.status (text_of result) }
 {
     match load_rewritten(alloc, store, file) {
         Ok(made) => {
             let counts = counts_from(&made);
             let image = made.bytes.as_slice();
-            save_and_answer(alloc, Status::Done, &counts, new, image, store, report)
+            save_and_reply(alloc, Status::Done, &counts, new, image, store)
         }
-        Err(status) => answer(alloc, report, status, &NO_COUNTS),
+        Err(status) => reply_with(alloc, status, &NO_COUNTS),
     }
 }

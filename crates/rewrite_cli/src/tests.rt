@@ -431,16 +431,17 @@ fn faults_of_the_outside_are_answered(rt: HostRuntime) -> Result<(), Fail> {
 #[test]
 fn fuel_ends_a_run(rt: HostRuntime) -> Result<(), Fail> {
     let file = program(rt.alloc(), &HELLO, "hello\n")?;
-    for (fuel, status, out) in [
-        (0, Status::Spent, ""),
-        (5, Status::Spent, ""),
-        (6, Status::Spent, "hello\n"),
-        (8, Status::Spent, "hello\n"),
-        (9, Status::Exited(0), "hello\n"),
-        (10, Status::Exited(0), "hello\n"),
+    let ended = "hart 0 instructions 9\nsteps 9\nexit 0\n";
+    for (fuel, status, out, text) in [
+        (0, Status::Spent, "", "spent\n"),
+        (5, Status::Spent, "", "spent\n"),
+        (6, Status::Spent, "hello\n", "spent\n"),
+        (8, Status::Spent, "hello\n", "spent\n"),
+        (9, Status::Exited(0), "hello\n", ended),
+        (10, Status::Exited(0), "hello\n", ended),
     ] {
         let mut at = prepared(rt.alloc(), file.as_slice(), "", 200, NONE_FAILS)?;
-        let end = run_file(
+        let reply = run_file(
             rt.alloc(),
             "file",
             fuel,
@@ -449,11 +450,8 @@ fn fuel_ends_a_run(rt: HostRuntime) -> Result<(), Fail> {
             &mut at.input,
             &mut at.out,
         );
-        assert!(rt; end.status == status, "fuel {fuel}");
-        assert!(rt;
-            end.counts == Counts::Steps(fuel.min(9)),
-            "steps after {fuel}"
-        );
+        assert!(rt; reply.status == status, "fuel {fuel}");
+        assert!(rt; reply.text.as_str() == text, "text after {fuel}");
         assert!(rt; at.out.bytes() == out.as_bytes(), "output after {fuel}");
     }
     Ok(())

@@ -65,7 +65,8 @@ fn run_from<'a>(
     fuel: &str,
     dump: Option<&'a str>,
 ) -> Command<'a>
-    ensures { command_shown result ≡ (if is_run_by_one verb.now harts.now then run_for file.now fuel.now (option_copied dump.entry) else None) }
+    ensures { command_shown result ≡ (if is_run_by_one verb.now harts.now then run_for file.now fuel.now
+        (option_copied dump.entry) else None) }
 {
     if !is_run_by_one(verb, harts) {
         return Command::Unknown;

@@ -257,3 +257,18 @@ fn other_answers_save_no_dump(rt: HostRuntime) -> Result<(), Fail> {
     }
     Ok(())
 }
+
+// The file is replaced by the memory of its run: it was loaded before.
+#[test]
+fn dump_may_have_the_name_of_the_file(rt: HostRuntime) -> Result<(), Fail> {
+    let file = program(rt.alloc(), &HELLO, "hello\n")?;
+    let mut at = prepared(rt.alloc(), file.as_slice(), "in", 200, NONE_FAILS)?;
+    let status = answer_to(&rt, rt.alloc(), "run file 1 9 file", &mut at)?;
+    assert!(rt; status == Status::Exited(0));
+    assert!(rt; at.report.bytes() == HELLO_REPORT.as_bytes());
+    assert!(rt; at.out.bytes() == b"hello\n".as_slice());
+    let dump = at.store.get("file").ok_or("nothing is saved")?;
+    assert!(rt; dump.len() == 25_165_992);
+    assert!(rt; dump.starts_with(file.as_slice()));
+    Ok(())
+}

@@ -1,4 +1,4 @@
-use super::{NONE_FAILS, answer_to, bytes_of, prepared};
+use super::{Failing, NONE_FAILS, answer_to, bytes_of, prepared};
 use crate::counts::NO_COUNTS;
 use crate::report::report_text;
 use crate::status::{Reason, Status};
@@ -245,5 +245,45 @@ fn marked_file_is_not_rewritten(rt: HostRuntime) -> Result<(), Fail> {
     assert!(rt; status == Status::Refused(Reason::Marked { index: 2 }));
     assert!(rt; at.report.bytes() == b"rewritten entries 0 words 0\nrefused marked 2\n".as_slice());
     assert!(rt; at.store.get("other").is_none());
+    Ok(())
+}
+
+// One number each: every loop makes one turn, so that each of the 40 words is executed once.
+#[test]
+fn arrays_of_one_number_are_added(rt: HostRuntime) -> Result<(), Fail> {
+    let file = bytes_of(rt.alloc(), &TWO_HEADERS)?;
+    let mut at = prepared(rt.alloc(), file.as_slice(), "in", 200, NONE_FAILS)?;
+    let status = answer_to(&rt, rt.alloc(), "run file 1", &mut at)?;
+    assert!(rt; status == Status::Exited(0));
+    assert!(rt; at.out.bytes() == [0; 8].as_slice());
+    assert!(rt; at.report.bytes() == b"hart 0 instructions 40\nsteps 40\nexit 0\n".as_slice());
+    assert!(rt; at.input.rest() == b"in".as_slice());
+    Ok(())
+}
+
+// A file that is refused, with a report that fails at once or is cut: nothing is read, written or saved.
+#[test]
+fn refusals_whose_report_fails_touch_nothing(rt: HostRuntime) -> Result<(), Fail> {
+    let fails = Failing {
+        report: Some(0),
+        ..NONE_FAILS
+    };
+    for words in [
+        "run file 1",
+        "run file 1 9 dump",
+        "rewrite file new",
+        "list file",
+    ] {
+        for (failing, room, report) in [(fails, 200, ""), (NONE_FAILS, 9, "refused n")] {
+            let mut at = prepared(rt.alloc(), b"no file", "in", room, failing)?;
+            let status = answer_to(&rt, rt.alloc(), words, &mut at)?;
+            assert!(rt; status == Status::WriteFault, "at {words}");
+            assert!(rt; at.report.bytes() == report.as_bytes(), "report at {words}");
+            assert!(rt; at.out.bytes().is_empty(), "output at {words}");
+            assert!(rt; at.input.rest() == b"in".as_slice(), "input at {words}");
+            assert!(rt; at.store.get("dump").is_none(), "dump at {words}");
+            assert!(rt; at.store.get("new").is_none(), "image at {words}");
+        }
+    }
     Ok(())
 }

@@ -17,5 +17,9 @@ loop-done-preserved g c =
 
 pub returns-in-Err-clause-prefix : goal.returns-in-Err-clause-prefix
 returns-in-Err-clause-prefix g c = λ zs h.
-    let p = c.in-Err.ensures.prefix (zs ++ take c.loop-done.done c.args.bytes.now) (c.loop-done.invariant.written zs h) in
-    (c.loop-done.done + p.0, p.1 ∙ ap (λ (ys : List ℕ). Some ys) (written_more c.loop-done.done p.0 zs c.args.bytes.now))
+    let p = c.in-Err.ensures.prefix (zs ++ take c.loop-done.done c.args.bytes.now)
+    (c.loop-done.invariant.written zs h) in (
+      c.loop-done.done + p.0,
+      p.1 ∙ ap (λ (ys : List ℕ). Some ys)
+          (written_more c.loop-done.done p.0 zs c.args.bytes.now),
+    )

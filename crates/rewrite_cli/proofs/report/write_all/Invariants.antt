@@ -4,7 +4,8 @@ use Rattle.rewrite_cli.proofs.report.write_all.Given as goal
 abbrev pub invariant-loop-done : goal.invariant-loop-done
 invariant-loop-done g l = record {
   within : l.done ≤ length l.bytes;
-  written : (zs : List ℕ) → g.P.Sink.written l.initial.report ≡ Some zs → g.P.Sink.written l.report ≡ Some (zs ++ take l.done l.bytes);
+  written : (zs : List ℕ) → g.P.Sink.written l.initial.report ≡ Some zs
+      → g.P.Sink.written l.report ≡ Some (zs ++ take l.done l.bytes);
   faults : g.P.Sink.faults l.initial.report ≤ g.P.Sink.faults l.report;
 }
 

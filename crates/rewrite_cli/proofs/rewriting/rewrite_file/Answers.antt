@@ -1,23 +1,29 @@
-use Rattle.std.proofs.Common.{refl, ap, ◌∙◌, ◌++◌, Some}
-use Rattle.rewrite_cli.specs.Counts.{no_counts}
+use Rattle.std.proofs.Common.{ap, ◌∙◌, Some}
+use Rattle.rewrite_cli.specs.Words.{Rewrite}
 use Rattle.rewrite_cli.specs.Texts.{report_of}
 use Rattle.rewrite_cli.specs.declared.counts.Counts.{Counts}
-use Rattle.rewrite_cli.proofs.Effects.{no_write_fault, report_part}
+use Rattle.rewrite_cli.proofs.Done.{refused_done}
+use Rattle.rewrite_cli.proofs.Commands.{rewritten_done, lacks_first}
 use Rattle.rewrite_cli.proofs.rewriting.rewrite_file.Goals as goal
 
-pub returns-in-Ok-clause-report : goal.returns-in-Ok-clause-report
-returns-in-Ok-clause-report g c = λ m xs zs files f h.
-    rw (c.in-Ok.ensures.made m files c.args.new.now xs)
-    (c.save_and_answer.ensures.reported zs (no_write_fault c.save_and_answer.result f) h
-    ∙ ap (λ (n : Counts). Some (zs ++ report_of n c.save_and_answer.result)) c.counts_from-counts.ensures)
+pub returns-in-Ok : goal.returns-in-Ok
+returns-in-Ok g c = λ input output.
+    rewritten_done c.args.file.now c.args.new.now c.as_slice-image.result.now _
+    (record {
+      files = g.S.Store.files c.load_rewritten.new.store;
+      faults = g.S.Store.faults
+          c.load_rewritten.new.store;
+    }) _ input output
+    c.save_and_reply.result.status _ c.in-Ok.made c.save_and_reply.ensures.kind
+    (c.save_and_reply.ensures.text ∙ ap (λ (counts : Counts). report_of counts c.save_and_reply.result.status)
+    c.counts_from-counts.ensures)
+    c.in-Ok.ensures.same c.in-Ok.ensures.never_falls c.as_slice-image.ensures c.in-Ok.ensures.made
+    c.save_and_reply.ensures.saved c.save_and_reply.ensures.stays c.save_and_reply.ensures.others
+    c.save_and_reply.ensures.store_fault
 
-pub returns-in-Ok-clause-report_of_answer : goal.returns-in-Ok-clause-report_of_answer
-returns-in-Ok-clause-report_of_answer g c = λ zs ne h. (c.counts_from-counts.result, c.save_and_answer.ensures.reported zs ne h)
-
-pub returns-in-Err-clause-report_so_far : goal.returns-in-Err-clause-report_so_far
-returns-in-Err-clause-report_so_far g c = λ m xs zs files e h.
-    report_part zs no_counts c.in-Err.status _ _ (c.answer.ensures.prefix zs e h)
-    (λ f. rw (c.in-Err.ensures.refused f m files c.args.new.now xs) (refl, refl))
-
-pub returns-in-Err-clause-report_of_answer : goal.returns-in-Err-clause-report_of_answer
-returns-in-Err-clause-report_of_answer g c = λ zs ne h. (no_counts, c.answer.ensures.reported zs ne h)
+pub returns-in-Err : goal.returns-in-Err
+returns-in-Err g c = λ input output.
+    refused_done (Some (Rewrite c.args.file.now c.args.new.now)) _ _ input output c.in-Err.status _ _
+    c.reply_with.ensures.answer c.reply_with.ensures.text c.in-Err.ensures.kind
+    (λ e. lacks_first _ _ _ _ (c.in-Err.ensures.failed e)) c.in-Err.ensures.same (λ e. cc)
+    (λ f m files xs. c.in-Err.ensures.refused f m files c.args.new.now xs)

@@ -1,29 +1,49 @@
-use Rattle.std.proofs.Common.{ℕ, List, Some, ap, sym, ◌∙◌}
-use Rattle.std.specs.Prelude.{is_some, IsNone}
-use Rattle.std.proofs.lemmas.List.{append-nil}
+use Rattle.std.proofs.Common.{refl, inl, inr, ap, sym, ◌∙◌}
+use Rattle.std.specs.Option.{option_copied}
 use Rattle.serial_run.specs.Serial.{start_of}
-use Rattle.serial_run.specs.Ports.{is_port_fault}
-use Rattle.serial_run.specs.declared.machine.Machine.{Machine}
-use Rattle.rewrite_cli.proofs.Effects.{nothing_written, part_or_all}
+use Rattle.serial_run.specs.declared.machine.End.TheVariants.{ReadFault as SourceFault, WriteFault as SinkFault}
+use Rattle.rewrite_cli.specs.Counts.{no_counts}
+use Rattle.rewrite_cli.specs.Status.{is_from_outside, comes_first}
+use Rattle.rewrite_cli.specs.Texts.{report_of}
+use Rattle.rewrite_cli.specs.declared.status.Status.{Status}
+use Rattle.rewrite_cli.proofs.Running.{fault_runs, ended_runs, unbegun_runs, ended_as, no_port_fault, started_rose, inner_end}
 use Rattle.rewrite_cli.proofs.run.run_elf.Goals as goal
 
-pub returns-in_default-clause-prefix : goal.returns-in_default-clause-prefix
-returns-in_default-clause-prefix g c = λ xs ys rest written. nothing_written _ ys _ written
+pub returns-in-ReadFault : goal.returns-in-ReadFault
+returns-in-ReadFault g c =
+    let answer = c.from_outside-in-ReadFault.ensures.status in
+    let ended = ended_as c.run_counted-ran.new.m.ended SourceFault (sym c.in-ReadFault.is
+    ∙ c.run_counted-ran.ensures.end) (λ e. cc) in
+    fault_runs c.output_only_grows.ensures c.args.elf.now c.args.fuel (option_copied c.args.dump) _ _ _ _ _ _
+    c.in-Ok.machine c.run_counted-ran.new.m SourceFault _ _ c.in-Ok.ensures refl c.run_counted-ran.ensures.runs
+    ended refl (inl answer) (ap is_from_outside answer) (c.from_outside-in-ReadFault.ensures.text
+    ∙ ap (λ (v : Status). report_of no_counts v) (sym answer)) (ap comes_first answer)
+    (λ e. cc) (λ e. started_rose _ c.args.elf.now c.in-Ok.machine SourceFault c.in-Ok.ensures
+    (c.run_counted-ran.ensures.keeps.read_fault ended)) (λ e. absurd (cc))
 
-pub returns-in-Ok-dump_under-clause-prefix : goal.returns-in-Ok-dump_under-clause-prefix
-returns-in-Ok-dump_under-clause-prefix g c = λ xs ys rest written.
-    let s = start_of c.args.elf.now xs in
-    let before = written ∙ ap (λ (v : List ℕ). Some v) (sym (append-nil ys)) in
-    let none : IsNone c.in-Ok.machine.ended = ap (λ (m : Machine). is_some m.ended) c.in-Ok.ensures in
-    part_or_all (is_port_fault c.run_counted-ran.new.m.ended) _ _
-    (λ f. c.run_counted-ran.ensures.prefix s ys c.in-Ok.ensures rest none f before)
-    (λ f. c.run_counted-ran.ensures.output s ys c.in-Ok.ensures rest f before)
+pub returns-in-WriteFault : goal.returns-in-WriteFault
+returns-in-WriteFault g c =
+    let answer = c.from_outside-in-WriteFault.ensures.status in
+    let ended = ended_as c.run_counted-ran.new.m.ended SinkFault (sym c.in-WriteFault.is
+    ∙ c.run_counted-ran.ensures.end) (λ e. cc) in
+    fault_runs c.output_only_grows.ensures c.args.elf.now c.args.fuel (option_copied c.args.dump) _ _ _ _ _ _
+    c.in-Ok.machine c.run_counted-ran.new.m SinkFault _ _ c.in-Ok.ensures refl c.run_counted-ran.ensures.runs
+    ended refl (inr (answer, refl)) (ap is_from_outside answer) (c.from_outside-in-WriteFault.ensures.text
+    ∙ ap (λ (v : Status). report_of no_counts v) (sym answer)) (ap comes_first answer)
+    (λ e. cc) (λ e. absurd (cc)) (λ e. started_rose _ c.args.elf.now c.in-Ok.machine SinkFault c.in-Ok.ensures
+    (c.run_counted-ran.ensures.keeps.write_fault ended))
 
-pub returns-clause-prefix : goal.returns-clause-prefix
-returns-clause-prefix g c = λ xs ys rest written.
-    let s = start_of c.args.elf.now xs in
-    let before = written ∙ ap (λ (v : List ℕ). Some v) (sym (append-nil ys)) in
-    let none : IsNone c.in-Ok.machine.ended = ap (λ (m : Machine). is_some m.ended) c.in-Ok.ensures in
-    part_or_all (is_port_fault c.run_counted-ran.new.m.ended) _ _
-    (λ f. c.run_counted-ran.ensures.prefix s ys c.in-Ok.ensures rest none f before)
-    (λ f. c.run_counted-ran.ensures.output s ys c.in-Ok.ensures rest f before)
+pub returns : goal.returns
+returns g c =
+    let end = c.run_counted-ran.result.end in
+    let clean = no_port_fault c.run_counted-ran.new.m.ended end c.run_counted-ran.ensures.end
+    c.in_default-end.not-ReadFault c.in_default-end.not-WriteFault in
+    ended_runs c.args.elf.now c.args.fuel (option_copied c.args.dump) _ _ _ _ _ _ c.in-Ok.machine
+    c.run_counted-ran.new.m end c.run_counted-ran.result.steps _ _ c.in-Ok.ensures
+    c.run_counted-ran.ensures.runs c.run_counted-ran.ensures.end clean
+    (λ xs told. c.run_counted-ran.ensures.steps (start_of c.args.elf.now xs) c.in-Ok.ensures told clean)
+    (rw c.status_from.ensures at c.save_memory.ensures.kind)
+    (inner_end end c.in_default-end.not-ReadFault c.in_default-end.not-WriteFault) c.save_memory.ensures.text
+    (rw c.status_from.ensures at c.save_memory.ensures.saved)
+    (rw c.status_from.ensures at c.save_memory.ensures.stays) c.save_memory.ensures.others
+    c.save_memory.ensures.store_fault

@@ -1,14 +1,23 @@
+use Rattle.std.proofs.Common.{Some}
 use Rattle.std.specs.Option.{option_copied}
-use Rattle.rewrite_cli.proofs.Effects.{nothing_written}
+use Rattle.rewrite_cli.specs.Words.{Run}
+use Rattle.rewrite_cli.specs.Answer.{stored}
+use Rattle.rewrite_cli.proofs.Done.{refused_done}
+use Rattle.rewrite_cli.proofs.Commands.{run_done, lacks_first}
 use Rattle.rewrite_cli.proofs.run.run_file.Goals as goal
 
-pub returns-in-Ok-clause-output : goal.returns-in-Ok-clause-output
-returns-in-Ok-clause-output g c = λ m xs ys files rest f written.
-    rw (c.in-Ok.ensures.accepted m files c.args.fuel (option_copied c.args.dump) xs) (c.run_elf.ensures.output xs ys rest f written)
+pub returns-in-Ok-clause-done : goal.returns-in-Ok-clause-done
+returns-in-Ok-clause-done g c =
+    run_done c.args.file.now c.args.fuel (option_copied c.args.dump) c.in-Ok.image _
+    (stored (g.S.Store.files c.load_image.new.store) (g.S.Store.faults c.load_image.new.store)) _ _ _ _ _ _ _
+    c.in-Ok.ensures.same c.in-Ok.ensures.never_falls c.in-Ok.ensures.accepted c.run_elf.ensures
 
-pub returns-in-Ok-clause-prefix : goal.returns-in-Ok-clause-prefix
-returns-in-Ok-clause-prefix g c = λ m xs ys files rest written.
-    rw (c.in-Ok.ensures.accepted m files c.args.fuel (option_copied c.args.dump) xs) (c.run_elf.ensures.prefix xs ys rest written)
+pub returns-in-Ok-clause-not_started : goal.returns-in-Ok-clause-not_started
+returns-in-Ok-clause-not_started g c = λ m files none. absurd (none c.in-Ok.image (c.in-Ok.ensures.accepted m files))
 
-pub returns-in-Err-clause-prefix : goal.returns-in-Err-clause-prefix
-returns-in-Err-clause-prefix g c = λ m xs ys files rest written. nothing_written _ ys _ written
+pub returns-in-Err-clause-done : goal.returns-in-Err-clause-done
+returns-in-Err-clause-done g c =
+    refused_done (Some (Run c.args.file.now c.args.fuel (option_copied c.args.dump))) _ _ _ _ c.in-Err.status _ _
+    c.reply_with.ensures.answer c.reply_with.ensures.text c.in-Err.ensures.kind
+    (λ e. lacks_first _ _ _ _ (c.in-Err.ensures.failed e)) c.in-Err.ensures.same (λ e. cc)
+    (λ f m files xs. c.in-Err.ensures.refused f m files c.args.fuel (option_copied c.args.dump) xs)

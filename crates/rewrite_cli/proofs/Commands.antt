@@ -1,0 +1,247 @@
+-- What each command has done.
+use Rattle.std.proofs.Common.{◌≡◌, ◌≢◌, ◌≤◌, ◌++◌, ℕ, ◌⊎◌, inl, inr, List, [], ◌∷◌, Option, Some, None, Ok, Result, Bool, true, false, refl, ap, sym, subst, ◌∙◌, arith}
+use Rattle.std.specs.Prelude.{take}
+use Rattle.outside_ports.specs.Ports.{Files, Rose, Lacks, SameButIn}
+use Rattle.outside_ports.specs.Fakes.{File}
+use Rattle.elf_image.specs.declared.image.Elf.{Elf}
+use Rattle.elf_image.specs.declared.rules.ElfErr.{ElfErr}
+use Rattle.elf_image.specs.Reading.{reading_of}
+use Rattle.image_writer.specs.declared.image.Image.{Image}
+use Rattle.rewriter.specs.declared.rewriting.Rewritten.{Rewritten}
+use Rattle.rewriter.specs.Admission.{Admission, admission_of}
+use Rattle.serial_run.specs.Serial.{start_of}
+use Rattle.rewrite_cli.specs.Words.{Command, Run, Rewrite, Loops}
+use Rattle.rewrite_cli.specs.Listing.{Listing, Lines, TooMany, AreLines, IsListing}
+use Rattle.rewrite_cli.specs.Needs.{needs_of, LacksOne, SameBut}
+use Rattle.rewrite_cli.specs.Counts.{no_counts}
+use Rattle.rewrite_cli.specs.Texts.{report_of}
+use Rattle.rewrite_cli.specs.Status.{is_from_outside, comes_first}
+use Rattle.rewrite_cli.specs.Effect.{Effect, Moment, IsMomentOf, Does, Passes, StartsRun, HoldsImage, HoldsLines, OfImage, OfReading, Runs, RunsFile, ListsFile, OfFile, load_limit, only, ran, listed, image_saved, counts_of}
+use Rattle.rewrite_cli.specs.Answer.{Stored, Stream, Outside, outside, stream, Tells, Appends, AreSaved, StayBut, IsMet, StopsAt, StopsBehind, Stops, HasCause, IsDone, RunsTo}
+use Rattle.rewrite_cli.specs.declared.status.Reason.TheVariants.{TooManyWords}
+use Rattle.rewrite_cli.specs.declared.status.Status.{Status}
+use Rattle.rewrite_cli.specs.declared.status.Status.TheVariants.{Done, Usage, Refused, OutOfMemory, WriteFault, StoreFault, ReadFault}
+use Rattle.rewrite_cli.proofs.Done.{appends_nothing, same_but, same_but_one, IsReady, IsEnd, ended_done}
+use Rattle.rewrite_cli.proofs.Loaded.{loaded}
+
+pub rose_since : (before between now : ℕ) → before ≤ between → Rose between now → Rose before now
+rose_since before between now h rose = omega arith
+
+pub lacks_first : (before now : ℕ) (files : Option Files) (name : List ℕ) → Rose before now ⊎ Lacks files name
+    → Rose before now ⊎ LacksOne files (name ∷ [])
+lacks_first before now files name (inl rose) = inl rose
+lacks_first before now files name (inr lacks) = inr (inl lacks)
+
+-- ---- rewriting
+
+pub rewritten_done : (file new bytes : List ℕ) (store between now : Stored) (input output : Stream) (answer : Status)
+    (text : List ℕ) (made : Rewritten)
+    → (answer ≡ Done) ⊎ ((answer ≡ StoreFault) ⊎ (answer ≡ OutOfMemory)) → text ≡ report_of (counts_of made) answer
+    → between.files ≡ store.files → store.faults ≤ between.faults → bytes ≡ made.bytes
+    → ((m : Files) → store.files ≡ Some m → (new xs : List ℕ)
+    → Does (Some (Rewrite file new)) m xs (image_saved new xs made))
+    → ((m : Files) → between.files ≡ Some m → answer ≡ Done → AreSaved m now.files ((new, bytes) ∷ []))
+    → ((m : Files) → between.files ≡ Some m → is_from_outside answer ≡ true
+    → StayBut answer m now.files ((new, bytes) ∷ []))
+    → ((m : Files) → between.files ≡ Some m → SameButIn m now.files new)
+    → (answer ≡ StoreFault → Rose between.faults now.faults)
+    → IsDone (Some (Rewrite file new)) (outside store input output) (outside now input output) answer text
+rewritten_done file new bytes store between now input output answer text made kept is same rises image does saved
+    stays others fault =
+    ended_done (Some (Rewrite file new)) (outside store input output) (outside now input output) Done answer
+    (counts_of made) text kept is refl tt
+    (λ e. rose_since store.faults between.faults now.faults rises (fault e))
+    (λ m files. same_but_one m now.files new (others m (same ∙ files)))
+    (λ m xs tells.
+    let files = tells.files_are (λ e. cc) in (
+      image_saved new xs made,
+      record {
+        does = does m files new xs;
+        ready = record { status_is = refl; report = refl; output = appends_nothing output.bytes; rest = λ told. told };
+        saved = λ e t. subst (λ (v : List ℕ). AreSaved m now.files ((new, v) ∷ [])) image (saved m (same ∙ files) e);
+        stays = λ f t. subst (λ (v : List ℕ). StayBut answer m now.files ((new, v) ∷ [])) image (stays m (same
+            ∙ files) f);
+        more = inr (λ e. cc);
+      },
+    ))
+
+-- ---- lists
+
+pub lines_do : (content : Option (List ℕ)) (lines xs : List ℕ) → HoldsLines content lines
+    → OfFile load_limit (ListsFile xs) xs content (listed (Lines lines) xs)
+lines_do content lines xs h =
+    loaded load_limit (ListsFile xs) xs content h.bytes (listed (Lines lines) xs) h.are h.within
+    (let does : OfReading xs (reading_of h.bytes) (listed (Lines lines) xs) = rw h.read
+    (Lines lines, (h.lines_are, refl)) in does)
+
+pub many_do : (reading : Result Elf ElfErr) (elf : Elf) (status : Status) (count : ℕ) (xs : List ℕ) → reading ≡ Ok elf
+    → status ≡ Refused (TooManyWords count) → IsListing elf (TooMany count) → OfReading xs reading (only status xs)
+many_do reading elf status count xs e s many = rw e (TooMany count, (many, ap (λ (v : Status). only v xs) s))
+
+pub listed_done : (file lines : List ℕ) (store now : Stored) (input output written : Stream) (answer : Status)
+    (text : List ℕ) → answer ≡ Done → text ≡ [] → now.files ≡ store.files
+    → ((m : Files) → store.files ≡ Some m → HoldsLines (m file) lines) → Appends output.bytes written.bytes lines
+    → IsDone (Some (Loops file)) (outside store input output) (outside now input written) answer text
+listed_done file lines store now input output written answer text e is same holds appends =
+    record {
+      counts = no_counts;
+      text_is = is ∙ ap (λ (v : Status). report_of no_counts v) (sym e);
+      cause = subst (λ (v : Status). HasCause (Some (Loops file)) (outside store input output)
+          (outside now input written) v) (sym e) tt;
+      inside = λ m xs tells f.
+          let files = tells.files_are (λ e. cc) in (
+            listed (Lines lines) xs,
+            (
+              lines_do (m file) lines xs (holds m files),
+              record { status = e; report = is; output = appends; rest = λ told. told; saved = λ t. same ∙ t },
+            ),
+          );
+      stopped = λ m xs tells f. let g = rw e at f in absurd (cc);
+      others = λ m files. same_but m now.files [] (same ∙ files);
+    }
+
+pub cut_list_done : (file lines : List ℕ) (store now : Stored) (input output written : Stream) (answer : Status)
+    (text : List ℕ) → answer ≡ WriteFault → text ≡ report_of no_counts WriteFault → now.files ≡ store.files
+    → ((m : Files) → store.files ≡ Some m → HoldsLines (m file) lines)
+    → ((ys : List ℕ) → output.bytes ≡ Some ys → (k : ℕ) × (written.bytes ≡ Some (ys ++ take k lines)))
+    → Rose output.faults written.faults
+    → IsDone (Some (Loops file)) (outside store input output) (outside now input written) answer text
+cut_list_done file lines store now input output written answer text e is same holds part rose =
+    record {
+      counts = no_counts;
+      text_is = is ∙ ap (λ (v : Status). report_of no_counts v) (sym e);
+      cause = subst (λ (v : Status). HasCause (Some (Loops file)) (outside store input output)
+          (outside now input written) v) (sym e) rose;
+      inside = λ m xs tells f. let g = rw e at f in absurd (cc);
+      stopped = λ m xs tells f.
+          inr (inl (
+            record { output = []; more = lines; rest = xs },
+            (
+              (holds m (tells.files_are (λ e. cc)), refl, refl),
+              record
+                  { why = inr (inl e); output = part; rest = λ other told. told; files = same },
+            ),
+          ));
+      others = λ m files. same_but m now.files [] (same ∙ files);
+    }
+
+-- ---- runs
+
+pub image_does : (content : Option (List ℕ)) (image : Image) (fuel : ℕ) (dump : Option (List ℕ)) (xs : List ℕ)
+    → HoldsImage content image
+    → OfFile load_limit (RunsFile fuel dump xs) xs content (ran fuel dump (start_of image.elf xs))
+image_does content image fuel dump xs h =
+    loaded load_limit (RunsFile fuel dump xs) xs content h.bytes (ran fuel dump (start_of image.elf xs)) h.are h.within
+    (let does : OfImage (Runs fuel dump xs) xs (admission_of h.bytes) (ran fuel dump (start_of image.elf xs)) = rw
+    h.admitted refl in does)
+
+run_cause : (file : List ℕ) (fuel : ℕ) (dump : Option (List ℕ)) (before after : Outside) (answer : Status)
+    → comes_first answer ≡ false → (answer ≡ StoreFault → Rose before.store.faults after.store.faults)
+    → (answer ≡ ReadFault → Rose before.input.faults after.input.faults)
+    → (answer ≡ WriteFault → Rose before.output.faults after.output.faults)
+    → HasCause (Some (Run file fuel dump)) before after answer
+run_cause file fuel dump before after Usage late store input output = absurd (cc)
+run_cause file fuel dump before after StoreFault late store input output = inl (store refl)
+run_cause file fuel dump before after ReadFault late store input output = input refl
+run_cause file fuel dump before after WriteFault late store input output = output refl
+run_cause file fuel dump before after _ late store input output = tt
+
+met_since : (e : Effect) (m : Files) (xs : List ℕ) (store between now : Stored) (input output read written : Stream)
+    (answer : Status) (text : List ℕ) → between.files ≡ store.files
+    → IsMet e m xs (outside between input output) (outside now read written) answer text
+    → IsMet e m xs (outside store input output) (outside now read written) answer text
+met_since e m xs store between now input output read written answer text same h =
+    record {
+      status = h.status;
+      report = h.report;
+      output = h.output;
+      rest = h.rest;
+      saved = λ files. h.saved (same
+          ∙ files);
+    }
+
+running_why : (R : Type 0) (answer : Status) → R → (answer ≡ ReadFault)
+    ⊎ ((answer ≡ WriteFault) ⊎ ((answer ≡ OutOfMemory) × Unit {0})) → (answer ≡ ReadFault)
+    ⊎ ((answer ≡ WriteFault) ⊎ ((answer ≡ OutOfMemory) × R))
+running_why R answer r (inl e) = inl e
+running_why R answer r (inr (inl e)) = inr (inl e)
+running_why R answer r (inr (inr e)) = inr (inr (e.0, r))
+
+behind_why : (R : Type 0) (effect : Effect) (answer : Status) → R → (answer ≡ StoreFault)
+    ⊎ ((answer ≡ OutOfMemory) × (Unit {0} ⊎ (effect.saved ≢ []))) → (answer ≡ StoreFault)
+    ⊎ ((answer ≡ OutOfMemory) × (R ⊎ (effect.saved ≢ [])))
+behind_why R effect answer r (inl e) = inl e
+behind_why R effect answer r (inr e) = inr (e.0, inl r)
+
+stops_since : (file : List ℕ) (fuel : ℕ) (dump : Option (List ℕ)) (image : Image) (m : Files) (xs : List ℕ)
+    (store between now : Stored) (input output read written : Stream) (answer : Status) → between.files ≡ store.files
+    → HoldsImage (m file) image
+    → Stops (IsMomentOf fuel (start_of image.elf xs)) (λ effect. effect ≡ ran fuel dump (start_of image.elf xs))
+    (Unit {0}) m xs (outside between input output) (outside now read written) answer
+    → Stops (Passes (Some (Run file fuel dump)) m xs) (Does (Some (Run file fuel dump)) m xs)
+    (StartsRun (Some (Run file fuel dump)) m) m xs (outside store input output) (outside now read written) answer
+stops_since file fuel dump image m xs store between now input output read written answer same holds (inl h) =
+    inl (record { output = h.output; rest = h.rest; files = h.files ∙ same })
+stops_since file fuel dump image m xs store between now input output read written answer same holds (inr (inl h)) =
+    inr (inl (
+      h.0,
+      (
+        (image, (holds, h.1.0)),
+        record {
+          why = running_why (StartsRun (Some (Run file fuel dump)) m)
+              answer (image, holds) h.1.1.why;
+          output = h.1.1.output;
+          rest = h.1.1.rest;
+          files = h.1.1.files ∙ same;
+        },
+      ),
+    ))
+stops_since file fuel dump image m xs store between now input output read written answer same holds (inr (inr h)) =
+    inr (inr (
+      h.0,
+      (
+        subst (λ (v : Effect). OfFile load_limit (RunsFile fuel dump xs) xs (m file) v) (sym h.1.0)
+            (image_does (m file) image fuel dump xs holds),
+        record {
+          why = behind_why (StartsRun (Some (Run file fuel dump)) m) h.0 answer (image, holds) h.1.1.why;
+          output = h.1.1.output;
+          rest = h.1.1.rest;
+          count = h.1.1.count;
+          some_left = h.1.1.some_left;
+          between = h.1.1.between;
+          saved = h.1.1.saved;
+          files = λ t. h.1.1.files (same ∙ t);
+        },
+      ),
+    ))
+
+pub run_done : (file : List ℕ) (fuel : ℕ) (dump : Option (List ℕ)) (image : Image) (store between now : Stored)
+    (input output read written : Stream) (answer : Status) (text : List ℕ)
+    → between.files ≡ store.files → store.faults ≤ between.faults
+    → ((m : Files) → store.files ≡ Some m → HoldsImage (m file) image)
+    → RunsTo image.elf fuel dump (outside between input output) (outside now read written) answer text
+    → IsDone (Some (Run file fuel dump)) (outside store input output) (outside now read written) answer text
+run_done file fuel dump image store between now input output read written answer text same rises holds r =
+    record {
+      counts = r.counts;
+      text_is = r.text_is;
+      cause =
+          run_cause file fuel dump (outside store input output) (outside now read written) answer r.late
+          (λ e. rose_since store.faults between.faults now.faults rises (r.store_fault e)) r.read_fault r.write_fault;
+      inside = λ m xs tells f.
+          let files = tells.files_are (λ e. cc) in
+          let told = tells.input_is (image, holds m files) in (
+            ran fuel dump (start_of image.elf xs),
+            (
+              image_does (m file) image fuel dump xs (holds m files),
+              met_since (ran fuel dump (start_of image.elf xs)) m xs store between now input output read written
+                  answer text same (r.inside m xs (same ∙ files) told f),
+            ),
+          );
+      stopped = λ m xs tells f.
+          let files = tells.files_are (λ e. cc) in
+          let told = tells.input_is (image, holds m files) in
+          stops_since file fuel dump image m xs store between now input output read written answer same
+          (holds m files) (r.stopped m xs (same ∙ files) told f);
+      others = λ m files. r.others m (same ∙ files);
+    }

@@ -1,0 +1,227 @@
+-- What a command has done, from the answers of its steps.
+use Rattle.std.proofs.Common.{◌≡◌, ◌≢◌, ℕ, ◌++◌, ◌⊎◌, inl, inr, List, [], ◌∷◌, Option, Some, None, Bool, true, false, refl, ap, sym, subst, ◌∙◌, zero, suc}
+use Rattle.std.proofs.lemmas.List.{append-nil}
+use Rattle.std.specs.Prelude.{take}
+use Rattle.outside_ports.specs.Ports.{Files, Rose, SameButIn, SavedIn}
+use Rattle.rewrite_cli.specs.Words.{Command}
+use Rattle.rewrite_cli.specs.Needs.{needs_of, LacksOne, IsOther, SameBut}
+use Rattle.rewrite_cli.specs.Effect.{Effect, Does, StartsRun, Moment, Passes, only}
+use Rattle.rewrite_cli.specs.Answer.{Stored, Stream, Outside, outside, Tells, Appends, Leaves, AreSaved, StayBut, IsMet, IsUntouched, StopsBehind, Stops, HasCause, IsDone}
+use Rattle.rewrite_cli.specs.Counts.{no_counts}
+use Rattle.rewrite_cli.specs.Status.{is_from_outside, is_refusal}
+use Rattle.rewrite_cli.specs.Texts.{report_of}
+use Rattle.rewrite_cli.specs.declared.counts.Counts.{Counts}
+use Rattle.rewrite_cli.specs.declared.status.Status.{Status}
+use Rattle.rewrite_cli.specs.declared.status.Status.TheVariants.{Usage, Refused, OutOfMemory, WriteFault, StoreFault, ReadFault}
+
+-- ---- what does not change
+
+pub appends_nothing : (told : Option (List ℕ)) → Appends told told []
+appends_nothing told ys e = e ∙ ap (λ (xs : List ℕ). Some xs) (sym (append-nil ys))
+
+pub same_but : (m : Files) (files : Option Files) (names : List (List ℕ)) → files ≡ Some m → SameBut m files names
+same_but m files names e = rw e (λ other o. refl)
+
+-- but for one name
+pub same_but_one : (m : Files) (files : Option Files) (name : List ℕ) → SameButIn m files name
+    → SameBut m files (name ∷ [])
+same_but_one m None name h = h
+same_but_one m (Some n) name h = λ other o. h other o.0
+
+-- ---- answers
+
+-- an answer that is not from outside is the one that was to be given
+pub kept_answer : (answer status : Status) → (answer ≡ status) ⊎ (answer ≡ OutOfMemory)
+    → is_from_outside answer ≡ false → answer ≡ status
+kept_answer answer status (inl e) f = e
+kept_answer answer status (inr e) f = let g = rw e at f in cc
+
+-- also where a file was to be saved
+pub kept_saving : (answer status : Status) → (answer ≡ status) ⊎ ((answer ≡ StoreFault) ⊎ (answer ≡ OutOfMemory))
+    → is_from_outside answer ≡ false → answer ≡ status
+kept_saving answer status (inl e) f = e
+kept_saving answer status (inr (inl e)) f = let g = rw e at f in cc
+kept_saving answer status (inr (inr e)) f = let g = rw e at f in cc
+
+refusal_cause : (command : Option Command) (before after : Outside) (status : Status) → is_refusal status ≡ true
+    → (status ≡ StoreFault → Rose before.store.faults after.store.faults
+    ⊎ LacksOne before.store.files (needs_of command).loads)
+    → HasCause command before after status
+refusal_cause command before after (Refused why) r fault = tt
+refusal_cause command before after StoreFault r fault = fault refl
+refusal_cause command before after OutOfMemory r fault = tt
+refusal_cause command before after _ r fault = absurd (cc)
+
+-- an answer in place of which memory is wanted
+pub kept_cause : (command : Option Command) (before after : Outside) (status answer : Status) → (answer ≡ status)
+    ⊎ (answer ≡ OutOfMemory)
+    → HasCause command before after status → HasCause command before after answer
+kept_cause command before after status answer (inl e) h = subst (λ (s : Status). HasCause command before after s)
+    (sym e) h
+kept_cause command before after status answer (inr e) h = subst (λ (s : Status). HasCause command before after s)
+    (sym e) tt
+
+-- ---- a file that is refused
+
+only_met : (m : Files) (xs : List ℕ) (store now : Stored) (input output : Stream) (status answer : Status)
+    (text : List ℕ) → answer ≡ status → text ≡ report_of no_counts answer → now.files ≡ store.files
+    → IsMet (only status xs) m xs (outside store input output) (outside now input output) answer text
+only_met m xs store now input output status answer text e t same =
+    record {
+      status = e;
+      report = t ∙ ap (λ (s : Status). report_of no_counts s) e;
+      output = appends_nothing output.bytes;
+      rest = λ told. told;
+      saved = λ files. same ∙ files;
+    }
+
+pub refused_done : (command : Option Command) (store now : Stored) (input output : Stream) (status answer : Status)
+    (text : List ℕ) → (answer ≡ status) ⊎ (answer ≡ OutOfMemory)
+    → text ≡ report_of no_counts answer → is_refusal status ≡ true
+    → (status ≡ StoreFault → Rose store.faults now.faults ⊎ LacksOne store.files (needs_of command).loads)
+    → now.files ≡ store.files → (needs_of command).loads ≢ []
+    → (is_from_outside status ≡ false → (m : Files) → store.files ≡ Some m → (xs : List ℕ)
+    → Does command m xs (only status xs))
+    → IsDone command (outside store input output) (outside now input output) answer text
+refused_done command store now input output status answer text kept t refusal fault same loads does =
+    record {
+      counts = no_counts;
+      text_is = t;
+      cause = kept_cause command (outside store input output) (outside now input output) status answer kept
+          (refusal_cause command (outside store input output) (outside now input output) status refusal fault);
+      inside = λ m xs tells f.
+          let e = kept_answer answer status kept f in (
+            only status xs,
+            (
+              does (ap is_from_outside (sym e)
+                  ∙ f) m (tells.files_are loads) xs,
+              only_met m xs store now input output status answer text e t same,
+            ),
+          );
+      stopped = λ m xs tells f. inl (record { output = refl; rest = refl; files = same });
+      others = λ m files. same_but m now.files (needs_of command).saves (same ∙ files);
+    }
+
+-- ---- all but saving
+
+-- an effect that was to be met, up to its files
+pub record IsReady (effect : Effect) (m : Files) (input : List ℕ) (before after : Outside) (status : Status)
+    (counts : Counts) : Type 0 where
+  pub status_is : status ≡ effect.status
+  pub report : report_of counts status ≡ effect.report
+  pub output : Appends before.output.bytes after.output.bytes effect.output
+  pub rest : Leaves before.input.bytes after.input.bytes input effect.rest
+
+pub ready_met : (effect : Effect) (m : Files) (xs : List ℕ) (before after : Outside) (status answer : Status)
+    (counts : Counts) (text : List ℕ) → answer ≡ status → text ≡ report_of counts answer
+    → IsReady effect m xs before after status counts → (before.store.files ≡ Some m
+    → AreSaved m after.store.files effect.saved) → IsMet effect m xs before after answer text
+ready_met effect m xs before after status answer counts text e t ready saved =
+    record {
+      status = e ∙ ready.status_is;
+      report = t ∙ ap (λ (s : Status). report_of counts s) e ∙ ready.report;
+      output = ready.output;
+      rest = ready.rest;
+      saved = saved;
+    }
+
+late : (Running : Type 0) (effect : Effect) (status answer : Status) → (answer ≡ status)
+    ⊎ ((answer ≡ StoreFault) ⊎ (answer ≡ OutOfMemory)) → is_from_outside status ≡ false
+    → is_from_outside answer ≡ true
+    → Running ⊎ (effect.saved ≢ []) → (answer ≡ StoreFault) ⊎ ((answer ≡ OutOfMemory) × (Running ⊎ (effect.saved ≢ [])))
+late Running effect status answer (inl e) f t more = let g = rw e at t in absurd (cc)
+late Running effect status answer (inr (inl e)) f t more = inl e
+late Running effect status answer (inr (inr e)) f t more = inr (e, more)
+
+pub ready_behind : (effect : Effect) (Running : Type 0) (m : Files) (xs : List ℕ) (before after : Outside)
+    (status answer : Status) (counts : Counts) → IsReady effect m xs before after status counts
+    → (answer ≡ status) ⊎ ((answer ≡ StoreFault) ⊎ (answer ≡ OutOfMemory)) → is_from_outside status ≡ false
+    → is_from_outside answer ≡ true → Running ⊎ (effect.saved ≢ [])
+    → (before.store.files ≡ Some m → StayBut answer m after.store.files effect.saved)
+    → StopsBehind effect Running m xs before after answer
+ready_behind effect Running m xs before after status answer counts ready kept f t more stays =
+    record {
+      why = late Running effect status answer kept f t more;
+      output = ready.output;
+      rest = ready.rest;
+      count =
+          0;
+      some_left = inl refl;
+      between = m;
+      saved = refl;
+      files = stays;
+    }
+
+saving_cause : (command : Option Command) (before after : Outside) (status answer : Status) → (answer ≡ status)
+    ⊎ ((answer ≡ StoreFault) ⊎ (answer ≡ OutOfMemory)) → HasCause command before after status
+    → (answer ≡ StoreFault → Rose before.store.faults after.store.faults) → HasCause command before after answer
+saving_cause command before after status answer (inl e) h fault = subst
+    (λ (s : Status). HasCause command before after s) (sym e) h
+saving_cause command before after status answer (inr (inl e)) h fault = subst
+    (λ (s : Status). HasCause command before after s) (sym e) (inl (fault e))
+saving_cause command before after status answer (inr (inr e)) h fault = subst
+    (λ (s : Status). HasCause command before after s) (sym e) tt
+
+-- an effect that a command has come to, but for a save that failed, and for want of memory
+pub record IsEnd (command : Option Command) (effect : Effect) (m : Files) (input : List ℕ) (before after : Outside)
+    (status answer : Status) (counts : Counts) : Type 0 where
+  pub does : Does command m input effect
+  pub ready : IsReady effect m input before after status counts
+  pub saved : answer ≡ status → before.store.files ≡ Some m → AreSaved m after.store.files effect.saved
+  pub stays : is_from_outside answer ≡ true → before.store.files ≡ Some m
+      → StayBut answer m after.store.files effect.saved
+  pub more : StartsRun command m ⊎ (effect.saved ≢ [])
+
+-- a command that has come to its end
+pub ended_done : (command : Option Command) (before after : Outside) (status answer : Status) (counts : Counts)
+    (text : List ℕ) → (answer ≡ status) ⊎ ((answer ≡ StoreFault) ⊎ (answer ≡ OutOfMemory))
+    → text ≡ report_of counts answer → is_from_outside status ≡ false → HasCause command before after status
+    → (answer ≡ StoreFault → Rose before.store.faults after.store.faults)
+    → ((m : Files) → before.store.files ≡ Some m → SameBut m after.store.files (needs_of command).saves)
+    → ((m : Files) (xs : List ℕ) → Tells command before m xs → (effect : Effect)
+    × IsEnd command effect m xs before after status answer counts)
+    → IsDone command before after answer text
+ended_done command before after status answer counts text kept t inner cause fault others ends =
+    record {
+      counts = counts;
+      text_is = t;
+      cause = saving_cause command before after status answer kept cause fault;
+      inside = λ m xs tells f.
+          let e = kept_saving answer status kept f in
+          let r = ends m xs tells in
+          (r.0, (r.1.does, ready_met r.0 m xs before after status answer counts text e t r.1.ready (r.1.saved e)));
+      stopped = λ m xs tells f.
+          let r = ends m xs tells in
+          inr (inr (
+            r.0,
+            (
+              r.1.does,
+              ready_behind r.0 (StartsRun command m) m xs before after status answer counts
+                  r.1.ready kept inner f r.1.more (r.1.stays f),
+            ),
+          ));
+      others = others;
+    }
+
+-- a command that has no file
+pub plain_done : (command : Option Command) (store : Stored) (input output : Stream) (status answer : Status)
+    (text : List ℕ) → (answer ≡ status) ⊎ (answer ≡ OutOfMemory)
+    → text ≡ report_of no_counts answer → HasCause command (outside store input output) (outside store input output)
+    status → ((m : Files) (xs : List ℕ) → Does command m xs (only status xs))
+    → IsDone command (outside store input output) (outside store input output) answer text
+plain_done command store input output status answer text kept t cause does =
+    record {
+      counts = no_counts;
+      text_is = t;
+      cause = kept_cause command (outside store input output) (outside store input output) status answer kept cause;
+      inside = λ m xs tells f. (
+        only status xs,
+        (
+          does m xs,
+          only_met m xs store store input output status answer text
+              (kept_answer answer status kept f) t refl,
+        ),
+      );
+      stopped = λ m xs tells f. inl (record { output = refl; rest = refl; files = refl });
+      others = λ m files. same_but m store.files (needs_of command).saves files;
+    }
