@@ -2,8 +2,8 @@
 # Compiles the C programs of c/ for RV64IM without and with optimisation, runs each with the proved
 # program, before and after rewriting, and compares output and exit status with those that qemu-riscv64
 # gives, where that is installed. Then lists the loops of each, and of a program of more than 100,000 bytes
-# of code. Prints a line for each, and ends with status 1 where two differ, or where a list is refused or
-# takes a second or longer.
+# of code. Prints a line for each, with the time that a list took, and ends with status 1 where two differ, or
+# where a list is refused.
 # Takes no arguments and works from any folder. Wants Debian's gcc-riscv64-unknown-elf; without it
 # nothing is done. qemu-riscv64 is in Debian's qemu-user.
 set -euo pipefail
@@ -67,7 +67,6 @@ list() {
     end=$(date +%s%N)
     local time=$(((end - start) / 1000000))
     echo "list of $1, $(stat -c %s "$folder/$1") bytes: $(wc -l <"$folder/list") loops, $time ms"
-    [ "$time" -lt 1000 ] || failed=1
 }
 
 # Functions with nests of loops, each called once.
