@@ -85,7 +85,7 @@ fault_stops grows elf fuel m xs store now input read output written start machin
     let more = grows stop.count (suc stop.count) s (omega arith) in (
       record { output = (serial stop.count s).output; more = more.0; rest = (serial stop.count s).rest },
       (
-        record { count = stop.count; below = stop.below; output = refl; more = more.1; rest = refl },
+        record { count = stop.count; below = stop.below; running = stop.running; output = refl; more = more.1; rest = refl },
         record {
           why = why_stopped answer end kind;
           output = λ ys told_out.

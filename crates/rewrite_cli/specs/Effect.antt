@@ -1,5 +1,5 @@
 -- What a command does where the outside does not fail and memory is found.
-use Rattle.std.specs.Prelude.{ℕ, suc, ◌≡◌, ◌⊎◌, ◌<◌, ◌≤◌, ◌++◌, if◌then◌else◌, List, [], ◌∷◌, Option, Some, None, Result, Ok, Err, length}
+use Rattle.std.specs.Prelude.{ℕ, suc, ◌≡◌, ◌⊎◌, ◌<◌, ◌≤◌, ◌++◌, if◌then◌else◌, List, [], ◌∷◌, Option, Some, None, Result, Ok, Err, length, IsNone}
 use Rattle.outside_ports.specs.Ports.{Files}
 use Rattle.outside_ports.specs.Fakes.{File}
 use Rattle.rv64_decode.specs.Area.{Area}
@@ -192,10 +192,11 @@ pub record Moment : Type 0 where
   pub more : List ℕ
   pub rest : List ℕ
 
--- a moment of a run, in one of its instructions
+-- a moment of a run, in one of its instructions: it has not ended before that
 pub record IsMomentOf (fuel : ℕ) (s : State) (moment : Moment) : Type 0 where
   pub count : ℕ
   pub below : count < fuel
+  pub running : IsNone (ended (serial count s))
   pub output : moment.output ≡ (serial count s).output
   pub more : (serial (suc count) s).output ≡ moment.output ++ moment.more
   pub rest : moment.rest ≡ (serial count s).rest

@@ -61,7 +61,7 @@ pub enum Reason {
 /// What a command answers.
 #[derive(Clone, Copy, PartialEq, Eq, Debug)]
 pub enum Status {
-    /// What the command makes has been saved.
+    /// The command is done: what it lists is written, or what it makes is saved.
     Done,
     /// The guest called exit with this code.
     Exited(u8),
