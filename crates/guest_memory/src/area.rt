@@ -63,6 +63,7 @@ impl GuestArea {
         }
     }
 
+    #[inline(always)]
     pub fn holds(&self, addr: u64) -> bool
         ensures { result ≡ holds_of self.now addr }
     {
@@ -81,6 +82,7 @@ impl GuestArea {
         self.low + self.bytes.len() as u64
     }
 
+    #[inline(always)]
     pub fn is_readable(&self) -> bool
         ensures { result ≡ self.now.readable }
     {
@@ -93,6 +95,7 @@ impl GuestArea {
         self.executable
     }
 
+    #[inline(always)]
     pub fn is_writable(&self) -> bool
         ensures { result ≡ self.now.writable }
     {
@@ -133,6 +136,7 @@ impl GuestArea {
         self.bytes.as_mut_slice()[place..place + bytes.len()].copy_from_slice(bytes);
     }
 
+    #[inline(always)]
     pub fn number(&self, addr: u64, width: Width) -> u64
         requires from { self.now.low ≤ addr }
         requires to { addr + bytes_of width ≤ end_of self.now }
@@ -142,6 +146,7 @@ impl GuestArea {
         read(self.bytes.as_slice(), (addr - self.low) as usize, width)
     }
 
+    #[inline(always)]
     pub fn set_number(&mut self, addr: u64, width: Width, value: u64)
         requires from { self.old.low ≤ addr }
         requires to { addr + bytes_of width ≤ end_of self.old }
@@ -154,6 +159,7 @@ impl GuestArea {
     }
 }
 
+#[inline(always)]
 fn read(bytes: &[u8], place: usize, width: Width) -> u64
     requires { place + bytes_of width ≤ length bytes.now }
     ensures number { result ≡ little_number (bytes_of width) (drop place bytes.now) }
@@ -168,6 +174,7 @@ fn read(bytes: &[u8], place: usize, width: Width) -> u64
     }
 }
 
+#[inline(always)]
 fn write(bytes: &mut [u8], place: usize, width: Width, value: u64)
     requires { place + bytes_of width ≤ length bytes.old }
     ensures { bytes.new ≡ with_bytes (bytes_of width) place value bytes.old }

@@ -7,6 +7,7 @@ use crate::area::GuestArea;
 use rv64_decode::{MemFault, Width};
 
 // The place of the area that holds an address, by a binary search.
+#[inline(never)]
 pub(crate) fn search_for(areas: &[GuestArea], addr: u64) -> Option<usize>
     requires { AreasLieFrom 0 areas.now }
     ensures found { IfSome result (λ i. (i < length areas.now) × (holds (nth_area areas.now i) addr ≡ true)) }
@@ -30,6 +31,7 @@ pub(crate) fn search_for(areas: &[GuestArea], addr: u64) -> Option<usize>
 }
 
 // The same, where the area that answered last is tried first.
+#[inline(always)]
 pub(crate) fn find(areas: &[GuestArea], last: usize, addr: u64) -> Option<usize>
     requires { AreasLieFrom 0 areas.now }
     ensures found { IfSome result (λ i. (i < length areas.now) × (holds (nth_area areas.now i) addr ≡ true)) }
@@ -43,6 +45,7 @@ pub(crate) fn find(areas: &[GuestArea], last: usize, addr: u64) -> Option<usize>
 }
 
 // The place of the area in which an access lies, or why it lies in none.
+#[inline(always)]
 pub(crate) fn place_of(
     areas: &[GuestArea],
     last: usize,
@@ -78,6 +81,7 @@ pub(crate) fn peek_from(
 }
 
 // What a load answers; the area is the one to be tried first from now on.
+#[inline(always)]
 pub(crate) fn load_from(
     areas: &[GuestArea],
     last: &mut usize,
@@ -94,6 +98,7 @@ pub(crate) fn load_from(
 }
 
 // What a load from an area answers.
+#[inline(always)]
 fn load_at(areas: &[GuestArea], i: usize, addr: u64, width: Width) -> Result<u64, MemFault>
     requires lie { AreasLieFrom 0 areas.now }
     requires place { IsPlace areas.now i addr width }
@@ -130,6 +135,7 @@ pub(crate) fn set_word_in(areas: &mut [GuestArea], last: usize, addr: u64, value
 }
 
 // Makes a store that is not refused; the area is the one to be tried first from now on.
+#[inline(always)]
 pub(crate) fn store_to(
     areas: &mut [GuestArea],
     last: &mut usize,
@@ -152,6 +158,7 @@ pub(crate) fn store_to(
 }
 
 // What a fetch answers.
+#[inline(always)]
 pub(crate) fn fetch_from(areas: &[GuestArea], code: usize, addr: u64) -> Result<u32, MemFault>
     requires { AreasLieFrom 0 areas.now }
     ensures { result ≡ fetch_of areas.now addr }

@@ -173,10 +173,12 @@ impl Words for Memory {
 
     ghost stays = { λ _. tt };
 
+    #[inline(always)]
     fn load(&mut self, addr: u64, width: Width) -> Result<u64, MemFault> {
         load_from(self.areas.as_slice(), &mut self.last, addr, width)
     }
 
+    #[inline(always)]
     fn store(&mut self, addr: u64, width: Width, value: u64) -> Result<(), MemFault> {
         store_to(
             self.areas.as_mut_slice(),

@@ -1,10 +1,11 @@
 ghost use Rattle.std.specs.Prelude.{◌≡◌, ℕ, List};
-ghost use Rattle.rv64_decode.specs.Ask.{after, IsAllowed};
+ghost use Rattle.rv64_decode.specs.Area.{load_of, store_of, after_store};
+ghost use Rattle.rv64_decode.specs.Ask.{Loads, Stores, after, without_number, IsAllowed};
 ghost use Rattle.rv64_decode.specs.Registers.{with_register};
-ghost use Rattle.rv64_decode.specs.Row.{asks, outcome, jump as jump_of, next_pc, IsStop};
+ghost use Rattle.rv64_decode.specs.Row.{asks, outcome, loaded, stored, load_width, store_width, jump as jump_of, next_pc, IsStop};
 
 use crate::arithmetic::{alu, alu_imm, extended, plus_offset, taken, upper};
-use rv64_decode::{Fault, Instr, Next, Reg, Regs, Words};
+use rv64_decode::{Fault, Instr, LoadOp, Next, Reg, Regs, StoreOp, Words};
 
 // A taken branch.
 fn branch(target: u64) -> Next
@@ -36,6 +37,94 @@ fn jump(target: u64, rd: Reg, pc: u64, regs: &mut Regs) -> Next
     Next::At(target)
 }
 
+// A load of the number at `addr`, which goes to `rd`.
+#[inline(always)]
+fn load<W: Words>(op: LoadOp, rd: Reg, addr: u64, pc: u64, regs: &mut Regs, mem: &mut W) -> Next
+    requires { W.allows mem.old (Loads addr (load_width op)) }
+    ensures next { result ≡ (loaded op rd addr pc regs.old
+        (load_of (W.memory mem.old) addr (load_width op))).next }
+    ensures registers { regs.new ≡ (loaded op rd addr pc regs.old
+        (load_of (W.memory mem.old) addr (load_width op))).regs }
+    ensures memory { W.memory mem.new ≡ W.memory mem.old }
+    ensures moves { W.moves mem.old (Loads addr (load_width op)) mem.new }
+    ensures stop { IsStop result → regs.new ≡ regs.old }
+{
+    match mem.load(addr, op.width()) {
+        Ok(n) => {
+            regs.set(rd, extended(op, n));
+            Next::At(pc.wrapping_add(4))
+        }
+        Err(why) => Next::Fault {
+            kind: Fault::Load(why),
+            addr,
+        },
+    }
+}
+
+// The same; each operation has its width and its extension at hand where this is compiled.
+#[inline(always)]
+fn load_by<W: Words>(op: LoadOp, rd: Reg, addr: u64, pc: u64, regs: &mut Regs, mem: &mut W) -> Next
+    requires { W.allows mem.old (Loads addr (load_width op)) }
+    ensures next { result ≡ (loaded op rd addr pc regs.old
+        (load_of (W.memory mem.old) addr (load_width op))).next }
+    ensures registers { regs.new ≡ (loaded op rd addr pc regs.old
+        (load_of (W.memory mem.old) addr (load_width op))).regs }
+    ensures memory { W.memory mem.new ≡ W.memory mem.old }
+    ensures moves { W.moves mem.old (Loads addr (load_width op)) mem.new }
+    ensures stop { IsStop result → regs.new ≡ regs.old }
+{
+    match op {
+        LoadOp::Lb => load(LoadOp::Lb, rd, addr, pc, regs, mem),
+        LoadOp::Lh => load(LoadOp::Lh, rd, addr, pc, regs, mem),
+        LoadOp::Lw => load(LoadOp::Lw, rd, addr, pc, regs, mem),
+        LoadOp::Ld => load(LoadOp::Ld, rd, addr, pc, regs, mem),
+        LoadOp::Lbu => load(LoadOp::Lbu, rd, addr, pc, regs, mem),
+        LoadOp::Lhu => load(LoadOp::Lhu, rd, addr, pc, regs, mem),
+        LoadOp::Lwu => load(LoadOp::Lwu, rd, addr, pc, regs, mem),
+    }
+}
+
+// A store of the low bytes of `value` at `addr`.
+#[inline(always)]
+fn store<W: Words>(op: StoreOp, addr: u64, value: u64, pc: u64, mem: &mut W) -> Next
+    requires { W.allows mem.old (Stores addr (store_width op) value) }
+    ensures next { (regs : List ℕ) → result ≡ (stored addr pc regs
+        (without_number (store_of (W.memory mem.old) addr (store_width op)))).next }
+    ensures registers { (regs : List ℕ) → regs ≡ (stored addr pc regs
+        (without_number (store_of (W.memory mem.old) addr (store_width op)))).regs }
+    ensures memory { W.memory mem.new ≡ after_store (W.memory mem.old) addr (store_width op) value }
+    ensures moves { W.moves mem.old (Stores addr (store_width op) value) mem.new }
+    ensures stop { IsStop result → W.memory mem.new ≡ W.memory mem.old }
+{
+    match mem.store(addr, op.width(), value) {
+        Ok(()) => Next::At(pc.wrapping_add(4)),
+        Err(why) => Next::Fault {
+            kind: Fault::Store(why),
+            addr,
+        },
+    }
+}
+
+// The same; each operation has its width at hand where this is compiled.
+#[inline(always)]
+fn store_by<W: Words>(op: StoreOp, addr: u64, value: u64, pc: u64, mem: &mut W) -> Next
+    requires { W.allows mem.old (Stores addr (store_width op) value) }
+    ensures next { (regs : List ℕ) → result ≡ (stored addr pc regs
+        (without_number (store_of (W.memory mem.old) addr (store_width op)))).next }
+    ensures registers { (regs : List ℕ) → regs ≡ (stored addr pc regs
+        (without_number (store_of (W.memory mem.old) addr (store_width op)))).regs }
+    ensures memory { W.memory mem.new ≡ after_store (W.memory mem.old) addr (store_width op) value }
+    ensures moves { W.moves mem.old (Stores addr (store_width op) value) mem.new }
+    ensures stop { IsStop result → W.memory mem.new ≡ W.memory mem.old }
+{
+    match op {
+        StoreOp::Sb => store(StoreOp::Sb, addr, value, pc, mem),
+        StoreOp::Sh => store(StoreOp::Sh, addr, value, pc, mem),
+        StoreOp::Sw => store(StoreOp::Sw, addr, value, pc, mem),
+        StoreOp::Sd => store(StoreOp::Sd, addr, value, pc, mem),
+    }
+}
+
 /// Executes one instruction at the address `pc` (RISC-V unprivileged manual, RV64I and M). `ecall` is
 /// left to the caller. An instruction that loads or stores may be executed where its access may be
 /// asked of the memory, and any other always.
@@ -57,22 +146,11 @@ pub fn exec<W: Words>(i: Instr, pc: u64, regs: &mut Regs, mem: &mut W) -> Next
         Instr::Upper { op, rd, imm } => regs.set(rd, upper(op, pc, imm)),
         Instr::Load { op, rd, rs1, imm } => {
             let addr = plus_offset(regs.get(rs1), imm);
-            match mem.load(addr, op.width()) {
-                Ok(n) => regs.set(rd, extended(op, n)),
-                Err(why) => return Next::Fault {
-                    kind: Fault::Load(why),
-                    addr,
-                },
-            }
+            return load_by(op, rd, addr, pc, regs, mem);
         }
         Instr::Store { op, rs1, rs2, imm } => {
             let addr = plus_offset(regs.get(rs1), imm);
-            if let Err(why) = mem.store(addr, op.width(), regs.get(rs2)) {
-                return Next::Fault {
-                    kind: Fault::Store(why),
-                    addr,
-                };
-            }
+            return store_by(op, addr, regs.get(rs2), pc, mem);
         }
         Instr::Branch { op, rs1, rs2, imm } => if taken(op, regs.get(rs1), regs.get(rs2)) {
             return branch(plus_offset(pc, imm));

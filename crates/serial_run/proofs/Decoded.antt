@@ -9,7 +9,7 @@ use Rattle.guest_memory.specs.Layout.{AreasLieFrom, KeepAreas}
 use Rattle.guest_memory.proofs.Kept.{fetch-keeps}
 use Rattle.serial_run.specs.Serial.{State, ended, with_ending, after_instr, after_fetch, unless_ended, step}
 use Rattle.serial_run.specs.Runs.{Configuration, configuration_of, from_outside, is_port_fault, Acts, Keeps, WritesPart}
-use Rattle.serial_run.specs.Table.{instr_in, instr_at, IsFault, IsEntryOf, IsTableOf}
+use Rattle.serial_run.specs.Table.{instr_in, instr_at, EndsAt, IsFault, IsEntryOf, IsTableOf}
 use Rattle.serial_run.specs.declared.machine.Machine.{Machine}
 use Rattle.serial_run.specs.declared.machine.End.{End}
 use Rattle.serial_run.specs.declared.machine.End.TheVariants.{Exited, Faulted, Spent, ReadFault, WriteFault}
@@ -81,12 +81,12 @@ no_write : (end : End) → IsFault end → Some end ≡ Some WriteFault → ⊥
 no_write end h e = let f = no_port end h in let g : is_port_fault (Some end) ≡ true = ap is_port_fault e in cc
 
 -- an instruction that does not complete
-pub acts_end : (m : Machine) (r : Option (List ℕ)) (rf : ℕ) (w : Option (List ℕ)) (wf : ℕ) (end : End) → m.ended ≡ None → IsFault end
-    → ((s : State) → s.machine.memory ≡ m.memory → s.machine.pc ≡ m.pc → s.machine.ended ≡ None → step s ≡ with_ending s end)
+pub acts_end : (m : Machine) (r : Option (List ℕ)) (rf : ℕ) (w : Option (List ℕ)) (wf : ℕ) (end : End) → m.ended ≡ None → EndsAt m.memory m.pc end
     → Acts step (configuration_of m r rf w wf) (configuration_of (record m { ended = Some end }) r rf w wf)
-acts_end m r rf w wf end none fault ends =
+acts_end m r rf w wf end none at =
+    let fault = at.fault in
     let next : (s : State) → m ≡ s.machine → with_ending s end ≡ step s =
-    λ s e. sym (ends s (ap (λ (v : Machine). v.memory) (sym e)) (ap (λ (v : Machine). v.pc) (sym e)) (ap (λ (v : Machine). v.ended) (sym e) ∙ none)) in
+    λ s e. sym (at.next s (ap (λ (v : Machine). v.memory) (sym e)) (ap (λ (v : Machine). v.pc) (sym e)) (ap (λ (v : Machine). v.ended) (sym e) ∙ none)) in
     record {
       machine = λ s e h f. ap (λ (v : Machine). record v { ended = Some end }) e ∙ ap (λ (t : State). t.machine) (next s e);
       rest = λ s e h f. h ∙ ap (λ (t : State). Some t.rest) (next s e);

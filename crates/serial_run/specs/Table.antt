@@ -4,6 +4,7 @@ use Rattle.rv64_decode.specs.Area.{Area, fetch_of}
 use Rattle.rv64_decode.specs.Table.{decoded}
 use Rattle.rv64_decode.specs.declared.memory.MemFault.{MemFault}
 use Rattle.rv64_decode.specs.declared.instr.Instr.{Instr}
+use Rattle.serial_run.specs.Serial.{State, ended, step, with_ending}
 use Rattle.serial_run.specs.declared.machine.End.{End}
 use Rattle.serial_run.specs.declared.machine.End.TheVariants.{Faulted}
 use Rattle.serial_run.specs.declared.table.Entry.{Entry}
@@ -21,6 +22,11 @@ instr_at m addr = instr_in (fetch_of m addr)
 abbrev pub IsFault : End → Type 0
 IsFault (Faulted kind pc addr) = Unit {0}
 IsFault _ = ⊥
+
+-- a run comes to this ending at pc, since no instruction is executed there
+pub record EndsAt (m : List Area) (pc : ℕ) (end : End) : Type 0 where
+  pub fault : IsFault end
+  pub next : (s : State) → s.machine.memory ≡ m → s.machine.pc ≡ pc → ended s ≡ None → step s ≡ with_ending s end
 
 -- an entry has the instruction of its address
 pub record IsEntryOf (m : List Area) (e : Entry) : Type 0 where

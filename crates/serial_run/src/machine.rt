@@ -1,3 +1,5 @@
+ghost use Rattle.std.specs.Prelude.{◌≡◌, Some};
+
 use guest_calls::Brk;
 use guest_memory::Memory;
 use rv64_decode::{Fault, Regs};
@@ -28,4 +30,12 @@ pub struct Machine {
     pub brk: Brk,
     /// How the run has ended, if it has.
     pub ended: Option<End>,
+}
+
+/// The run ends at `pc`.
+pub(crate) fn end_at(m: &mut Machine, pc: u64, end: End)
+    ensures { m.new ≡ record m.old { pc = pc; ended = Some end } }
+{
+    m.pc = pc;
+    m.ended = Some(end);
 }

@@ -5,7 +5,7 @@ ghost use Rattle.guest_memory.specs.Layout.{KeepAreas};
 ghost use Rattle.serial_run.specs.Table.{instr_at};
 ghost use Rattle.serial_run.specs.Runs.{is_port_fault, configuration_of, call_at, Keeps, Acts, Runs};
 
-use crate::machine::{End, Machine};
+use crate::machine::{End, Machine, end_at};
 use crate::table::{Entry, PLACES, find_instr, instr_from};
 use elf_image::Elf;
 use guest_calls::{Brk, Going, PortFault, call};
@@ -57,14 +57,6 @@ fn answer_call<I: Source, O: Sink>(m: &mut Machine, input: &mut I, out: &mut O)
         Err(PortFault::Read) => m.ended = Some(End::ReadFault),
         Err(PortFault::Write) => m.ended = Some(End::WriteFault),
     }
-}
-
-// The run ends at `pc`.
-fn end_at(m: &mut Machine, pc: u64, end: End)
-    ensures { m.new ≡ record m.old { pc = pc; ended = Some end } }
-{
-    m.pc = pc;
-    m.ended = Some(end);
 }
 
 // Executes an instruction at `pc`, in place of which the machine may have another, and gives the next
@@ -184,23 +176,22 @@ fn run_from<I: Source, O: Sink>(
     areas_stay();
     m.memory.lies();
     let mut pc = m.pc;
+    let mut end = End::Spent;
     let mut table = [Entry {
         at: pc,
         instr: first,
     }; PLACES];
     for k in 0..fuel {
-        match find_instr(&m.memory, &mut table, pc) {
-            Ok(instr) => match execute(m, pc, instr, input, out) {
-                Some(next) => pc = next,
-                None => return Ran {
-                    end: m.ended.unwrap_or(End::Spent),
-                    steps: k + 1,
-                },
+        let Some(instr) = find_instr(&m.memory, &mut table, pc, &mut end) else {
+            end_at(m, pc, end);
+            return Ran { end, steps: k + 1 };
+        };
+        match execute(m, pc, instr, input, out) {
+            Some(next) => pc = next,
+            None => return Ran {
+                end: m.ended.unwrap_or(End::Spent),
+                steps: k + 1,
             },
-            Err(end) => {
-                end_at(m, pc, end);
-                return Ran { end, steps: k + 1 };
-            }
         }
     }
     m.pc = pc;

@@ -1,6 +1,6 @@
-ghost use Rattle.std.specs.Prelude.{◌≡◌, ◌-◌, ◌<◌, ℕ, length, Some, IfOk, IfErr, IsNone};
-ghost use Rattle.serial_run.specs.Serial.{State, step, with_ending};
-ghost use Rattle.serial_run.specs.Table.{IsFault, IsTableOf, instr_at};
+ghost use Rattle.std.specs.Prelude.{◌≡◌, ◌/◌, ◌%◌, ℕ, length, slice_index_or, true, false, Some, IfOk, IfErr, IfSome, IsNone};
+ghost use Rattle.serial_run.specs.Table.{EndsAt, IsTableOf, instr_at};
+ghost use Rattle.serial_run.specs.declared.table.Entry.{Entry as Shown};
 
 use crate::machine::End;
 use guest_memory::Memory;
@@ -20,7 +20,7 @@ pub(crate) struct Entry {
 // The place of an address.
 #[inline(always)]
 fn place_of(addr: u64) -> usize
-    ensures { result < 4096 }
+    ensures { result ≡ addr / 4 % 4096 }
 {
     (addr / 4 % PLACES as u64) as usize
 }
@@ -29,9 +29,7 @@ fn place_of(addr: u64) -> usize
 #[tactic(auto, unfolding(crate::specs::Serial::step))]
 pub(crate) fn instr_from(memory: &Memory, pc: u64) -> Result<Instr, End>
     ensures instr { IfOk result (λ i. instr_at memory.now pc ≡ Some i) }
-    ensures fault { IfErr result IsFault }
-    ensures ending { IfErr result (λ end. (s : State) → s.machine.memory ≡ memory.now → s.machine.pc ≡ pc
-        → s.machine.ended ≡ None → step s ≡ with_ending s end) }
+    ensures ends { IfErr result (EndsAt memory.now pc) }
 {
     match memory.fetch(pc) {
         Err(_) => Err(End::Faulted {
@@ -50,26 +48,50 @@ pub(crate) fn instr_from(memory: &Memory, pc: u64) -> Result<Instr, End>
     }
 }
 
-/// The same, from a table of the memory's instructions, which has it then.
-#[inline(always)]
-pub(crate) fn find_instr(memory: &Memory, table: &mut [Entry], pc: u64) -> Result<Instr, End>
+// Puts the instruction at an address into the table, and says whether there is one; where there is
+// none it tells the ending.
+#[inline(never)]
+fn refill(memory: &Memory, table: &mut [Entry], pc: u64, end: &mut End) -> bool
     requires places { length table.old ≡ 4096 }
     requires table { IsTableOf memory.now table.old }
     ensures table { IsTableOf memory.now table.new }
-    ensures instr { IfOk result (λ i. instr_at memory.now pc ≡ Some i) }
-    ensures fault { IfErr result IsFault }
-    ensures ending { IfErr result (λ end. (s : State) → s.machine.memory ≡ memory.now → s.machine.pc ≡ pc
-        → s.machine.ended ≡ None → step s ≡ with_ending s end) }
+    ensures entry { result ≡ true → (d : Shown) → (slice_index_or table.new (pc / 4 % 4096) d).at ≡ pc }
+    ensures ends { result ≡ false → EndsAt memory.now pc end.new }
+{
+    match instr_from(memory, pc) {
+        Ok(instr) => {
+            table[place_of(pc)] = Entry { at: pc, instr };
+            true
+        }
+        Err(why) => {
+            *end = why;
+            false
+        }
+    }
+}
+
+/// The instruction at an address, by a table of the memory's instructions, which has it then; where
+/// there is none, `end` is the ending.
+#[inline(always)]
+pub(crate) fn find_instr(
+    memory: &Memory,
+    table: &mut [Entry],
+    pc: u64,
+    end: &mut End,
+) -> Option<Instr>
+    requires places { length table.old ≡ 4096 }
+    requires table { IsTableOf memory.now table.old }
+    ensures table { IsTableOf memory.now table.new }
+    ensures instr { IfSome result (λ i. instr_at memory.now pc ≡ Some i) }
+    ensures ends { IsNone result → EndsAt memory.now pc end.new }
 {
     let place = place_of(pc);
     if table[place].at == pc {
-        return Ok(table[place].instr);
+        return Some(table[place].instr);
     }
-    match instr_from(memory, pc) {
-        Ok(instr) => {
-            table[place] = Entry { at: pc, instr };
-            Ok(table[place].instr)
-        }
-        Err(end) => Err(end),
+    if refill(memory, table, pc, end) {
+        Some(table[place].instr)
+    } else {
+        None
     }
 }

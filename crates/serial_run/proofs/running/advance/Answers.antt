@@ -9,13 +9,13 @@ pub returns-in-Err-clause-acts : goal.returns-in-Err-clause-acts
 returns-in-Err-clause-acts g c =
     let m = c.args.m.now in
     let P : Machine → Type 0 = λ v. Acts step (configuration_of m (g.I.Source.rest c.args.input.now) (g.I.Source.faults c.args.input.now) (g.O.Sink.written c.args.out.now) (g.O.Sink.faults c.args.out.now)) (configuration_of v (g.I.Source.rest c.args.input.now) (g.I.Source.faults c.args.input.now) (g.O.Sink.written c.args.out.now) (g.O.Sink.faults c.args.out.now)) in
-    subst P (sym c.end_at.ensures) (acts_end m _ _ _ _ c.in-Err.end c.requires c.in-Err.ensures.fault c.in-Err.ensures.ending)
+    subst P (sym c.end_at.ensures) (acts_end m _ _ _ _ c.in-Err.end c.requires c.in-Err.ensures.ends)
 
 pub returns-in-Err-clause-keeps : goal.returns-in-Err-clause-keeps
 returns-in-Err-clause-keeps g c =
     let m = c.args.m.now in
     let P : Machine → Type 0 = λ v. Keeps (configuration_of m (g.I.Source.rest c.args.input.now) (g.I.Source.faults c.args.input.now) (g.O.Sink.written c.args.out.now) (g.O.Sink.faults c.args.out.now)) (configuration_of v (g.I.Source.rest c.args.input.now) (g.I.Source.faults c.args.input.now) (g.O.Sink.written c.args.out.now) (g.O.Sink.faults c.args.out.now)) in
-    subst P (sym c.end_at.ensures) (keeps_end m _ _ _ _ c.in-Err.end c.in-Err.ensures.fault)
+    subst P (sym c.end_at.ensures) (keeps_end m _ _ _ _ c.in-Err.end c.in-Err.ensures.ends.fault)
 
 pub returns-in-Some-clause-acts : goal.returns-in-Some-clause-acts
 returns-in-Some-clause-acts g c = acts_as c.in-Ok.i _ _ c.requires c.in-Ok.ensures.instr c.in-Some.ensures.acts

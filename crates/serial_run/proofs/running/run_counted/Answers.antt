@@ -16,16 +16,16 @@ returns-in-Err-clause-steps g c = λ s e h f.
     let source = g.I.Source in
     let sink = g.O.Sink in
     let some : 0 < c.args.fuel = omega arith in
-    let acts = acts_end c.args.m.now (source.rest c.args.input.now) (source.faults c.args.input.now) (sink.written c.args.out.now) (sink.faults c.args.out.now) c.in-Err.end c.in_default.is c.in-Err.ensures.fault c.in-Err.ensures.ending in
-    steps_stop c.args.fuel 0 _ _ _ (runs_none _ c.in_default.is) acts some refl s e h (no_port c.in-Err.end c.in-Err.ensures.fault)
+    let acts = acts_end c.args.m.now (source.rest c.args.input.now) (source.faults c.args.input.now) (sink.written c.args.out.now) (sink.faults c.args.out.now) c.in-Err.end c.in_default.is c.in-Err.ensures.ends in
+    steps_stop c.args.fuel 0 _ _ _ (runs_none _ c.in_default.is) acts some refl s e h (no_port c.in-Err.end c.in-Err.ensures.ends.fault)
 
 pub returns-in-Err-clause-runs : goal.returns-in-Err-clause-runs
 returns-in-Err-clause-runs g c =
     let source = g.I.Source in
     let sink = g.O.Sink in
     let some : 0 < c.args.fuel = omega arith in
-    let acts = acts_end c.args.m.now _ _ _ _ c.in-Err.end c.in_default.is c.in-Err.ensures.fault c.in-Err.ensures.ending in
+    let acts = acts_end c.args.m.now _ _ _ _ c.in-Err.end c.in_default.is c.in-Err.ensures.ends in
     let P : Machine → Type 0 = λ v. Runs c.args.fuel
-      (configuration_of c.args.m.now (source.rest c.args.input.now) (source.faults c.args.input.now) (sink.written c.args.out.now) (sink.faults c.args.out.now))
-      (configuration_of v (source.rest c.args.input.now) (source.faults c.args.input.now) (sink.written c.args.out.now) (sink.faults c.args.out.now)) in
+    (configuration_of c.args.m.now (source.rest c.args.input.now) (source.faults c.args.input.now) (sink.written c.args.out.now) (sink.faults c.args.out.now))
+    (configuration_of v (source.rest c.args.input.now) (source.faults c.args.input.now) (sink.written c.args.out.now) (sink.faults c.args.out.now)) in
     subst P (sym c.end_at.ensures) (runs_stop c.args.fuel 0 _ _ _ (runs_none _ c.in_default.is) acts some refl)

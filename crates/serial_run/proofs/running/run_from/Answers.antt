@@ -19,55 +19,55 @@ loop-k-init g c = record {
 
 pub loop-k-preserved : goal.loop-k-preserved
 loop-k-preserved g c =
-    let none : c.execute.new.m.ended ≡ None = none_of _ c.in-Some.ensures.ended in
-    let acts = acts_as c.in-Ok.instr _ _ c.loop-k.invariant.runs.running c.in-Ok.ensures.instr c.in-Some.ensures.acts in
+    let none : c.execute.new.m.ended ≡ None = none_of _ c.in-Some-execute.ensures.ended in
+    let acts = acts_as c.in-Some.instr _ _ c.loop-k.invariant.runs.running c.in-Some.ensures.instr c.in-Some-execute.ensures.acts in
     record {
       runs = runs_more _ _ _ _ c.loop-k.invariant.runs acts none;
-      keeps = keeps_on _ _ _ c.loop-k.invariant.keeps c.in-Some.ensures.keeps;
-      table = table-keeps _ _ _ c.loop-k.invariant.lie c.in-Some.ensures.areas c.in-Ok.ensures.table;
-      lie = keep-lie 0 _ _ c.loop-k.invariant.lie c.in-Some.ensures.areas;
+      keeps = keeps_on _ _ _ c.loop-k.invariant.keeps c.in-Some-execute.ensures.keeps;
+      table = table-keeps _ _ _ c.loop-k.invariant.lie c.in-Some-execute.ensures.areas c.in-Some.ensures.table;
+      lie = keep-lie 0 _ _ c.loop-k.invariant.lie c.in-Some-execute.ensures.areas;
     }
 
 pub returns-in-None-clause-steps : goal.returns-in-None-clause-steps
 returns-in-None-clause-steps g c =
-    let acts = acts_as c.in-Ok.instr _ _ c.loop-k.invariant.runs.running c.in-Ok.ensures.instr c.in-None.ensures.acts in
+    let acts = acts_as c.in-Some.instr _ _ c.loop-k.invariant.runs.running c.in-Some.ensures.instr c.in-None.ensures.acts in
     steps_stop _ _ _ _ _ c.loop-k.invariant.runs acts c.loop-k-test.true (sym c.in-None.ensures.ended)
 
 pub returns-in-None-clause-runs : goal.returns-in-None-clause-runs
 returns-in-None-clause-runs g c =
-    let acts = acts_as c.in-Ok.instr _ _ c.loop-k.invariant.runs.running c.in-Ok.ensures.instr c.in-None.ensures.acts in
+    let acts = acts_as c.in-Some.instr _ _ c.loop-k.invariant.runs.running c.in-Some.ensures.instr c.in-None.ensures.acts in
     runs_stop _ _ _ _ _ c.loop-k.invariant.runs acts c.loop-k-test.true (sym c.in-None.ensures.ended)
 
 pub returns-in-None-clause-keeps : goal.returns-in-None-clause-keeps
 returns-in-None-clause-keeps g c = keeps_on _ _ _ c.loop-k.invariant.keeps c.in-None.ensures.keeps
 
-pub returns-in-Err-clause-steps : goal.returns-in-Err-clause-steps
-returns-in-Err-clause-steps g c = λ s e h f.
+pub returns-in_default-clause-steps : goal.returns-in_default-clause-steps
+returns-in_default-clause-steps g c = λ s e h f.
     let m : Machine = record c.loop-k.m { pc = c.loop-k.pc } in
-    let acts = acts_end m _ _ _ _ c.in-Err.end c.loop-k.invariant.runs.running c.in-Err.ensures.fault c.in-Err.ensures.ending in
-    steps_stop _ _ _ _ _ c.loop-k.invariant.runs acts c.loop-k-test.true refl s e h (no_port c.in-Err.end c.in-Err.ensures.fault)
+    let acts = acts_end m _ _ _ _ c.find_instr.new.end c.loop-k.invariant.runs.running (c.in_default.ensures.ends refl) in
+    steps_stop _ _ _ _ _ c.loop-k.invariant.runs acts c.loop-k-test.true refl s e h (no_port c.find_instr.new.end (c.in_default.ensures.ends refl).fault)
 
-pub returns-in-Err-clause-runs : goal.returns-in-Err-clause-runs
-returns-in-Err-clause-runs g c =
+pub returns-in_default-clause-runs : goal.returns-in_default-clause-runs
+returns-in_default-clause-runs g c =
     let source = g.I.Source in
     let sink = g.O.Sink in
     let m : Machine = record c.loop-k.m { pc = c.loop-k.pc } in
-    let acts = acts_end m _ _ _ _ c.in-Err.end c.loop-k.invariant.runs.running c.in-Err.ensures.fault c.in-Err.ensures.ending in
+    let acts = acts_end m _ _ _ _ c.find_instr.new.end c.loop-k.invariant.runs.running (c.in_default.ensures.ends refl) in
     let P : Machine → Type 0 = λ v. Runs c.args.fuel
-      (configuration_of c.args.m.now (source.rest c.args.input.now) (source.faults c.args.input.now) (sink.written c.args.out.now) (sink.faults c.args.out.now))
-      (configuration_of v (source.rest c.loop-k.input) (source.faults c.loop-k.input) (sink.written c.loop-k.out) (sink.faults c.loop-k.out)) in
+    (configuration_of c.args.m.now (source.rest c.args.input.now) (source.faults c.args.input.now) (sink.written c.args.out.now) (sink.faults c.args.out.now))
+    (configuration_of v (source.rest c.loop-k.input) (source.faults c.loop-k.input) (sink.written c.loop-k.out) (sink.faults c.loop-k.out)) in
     subst P (sym c.end_at.ensures) (runs_stop _ _ _ _ _ c.loop-k.invariant.runs acts c.loop-k-test.true refl)
 
-pub returns-in-Err-clause-keeps : goal.returns-in-Err-clause-keeps
-returns-in-Err-clause-keeps g c =
+pub returns-in_default-clause-keeps : goal.returns-in_default-clause-keeps
+returns-in_default-clause-keeps g c =
     let source = g.I.Source in
     let sink = g.O.Sink in
     let m : Machine = record c.loop-k.m { pc = c.loop-k.pc } in
     let P : Machine → Type 0 = λ v. Keeps
-      (configuration_of c.args.m.now (source.rest c.args.input.now) (source.faults c.args.input.now) (sink.written c.args.out.now) (sink.faults c.args.out.now))
-      (configuration_of v (source.rest c.loop-k.input) (source.faults c.loop-k.input) (sink.written c.loop-k.out) (sink.faults c.loop-k.out)) in
+    (configuration_of c.args.m.now (source.rest c.args.input.now) (source.faults c.args.input.now) (sink.written c.args.out.now) (sink.faults c.args.out.now))
+    (configuration_of v (source.rest c.loop-k.input) (source.faults c.loop-k.input) (sink.written c.loop-k.out) (sink.faults c.loop-k.out)) in
     subst P (sym c.end_at.ensures)
-    (keeps_on _ _ _ c.loop-k.invariant.keeps (keeps_end m _ _ _ _ c.in-Err.end c.in-Err.ensures.fault))
+    (keeps_on _ _ _ c.loop-k.invariant.keeps (keeps_end m _ _ _ _ c.find_instr.new.end (c.in_default.ensures.ends refl).fault))
 
 pub returns-clause-steps : goal.returns-clause-steps
 returns-clause-steps g c = λ s e h f.

@@ -1,7 +1,1 @@
-use Rattle.std.proofs.lemmas.List.Elements.{All-set}
-use Rattle.serial_run.specs.Table.{IsEntryOf}
 use Rattle.serial_run.proofs.table.find_instr.Goals as goal
-
-pub returns-in-Ok-clause-table : goal.returns-in-Ok-clause-table
-returns-in-Ok-clause-table c =
-    All-set (IsEntryOf c.args.memory.now) c.args.table.now c.place_of-place.result _ (record { is = c.in-Ok.ensures.instr }) c.requires.table
