@@ -1,9 +1,13 @@
 #!/bin/bash
-# Measures how many instructions a second the serial run executes. Makes two executables of about 10^8
-# instructions: `count`, whose loop loads a doubleword from the stack, adds 1, stores it back, counts
-# down and branches, and `mix`, with a multiplication, a second load and a second branch in the loop.
-# Runs each some times with the built program, and prints, from the report's line `steps` and the
-# least user time, the rate. Usage: bench/serial.sh [RUNS], 5 runs by default.
+# Measures how many instructions a second the serial run executes, on five programs of about 10^8
+# instructions each: `count`, whose loop loads a doubleword from the stack, adds 1, stores it back, counts
+# down and branches; `mix`, with a multiplication, a second load and a second branch in the loop; and,
+# where there is a compiler for RISC-V, a matrix product, a hash and a sort from examples/c.
+# Runs each some times with the built program, and prints, from the report's line `steps` and the least
+# user time, the rate. Where YARDSTICK names the source of an interpreter in C, which takes a file and
+# prints `steps N` on its standard error, that is compiled by gcc -O2 and run between, and the ratio of
+# the two times is printed too.
+# Usage: [YARDSTICK=FILE.c] bench/serial.sh [RUNS], 5 runs by default.
 # Wants python3; examples/build.sh builds the program where it is not built yet.
 set -euo pipefail
 
@@ -66,21 +70,48 @@ for name, turns, loop in (("count", 20_000_000, COUNT), ("mix", 11_500_000, MIX)
         file.write(header + segment + code)
 PYTHON
 
-for loop in count mix; do
-    best=
+programs=(count mix)
+compiler=riscv64-unknown-elf-gcc
+if command -v "$compiler" >/dev/null; then
+    flags=(-march=rv64im -mabi=lp64 -mcmodel=medany -ffreestanding -nostdlib -static -O2)
+    for kernel in product:60 hash:4000 shell:24; do
+        name=${kernel%:*}
+        "$compiler" "${flags[@]}" -DROUNDS="${kernel#*:}" -o "$folder/$name" \
+            "$root/examples/c/start.S" "$root/examples/c/$name.c"
+        programs+=("$name")
+    done
+fi
+if [ -n "${YARDSTICK:-}" ]; then
+    gcc -O2 -w -o "$folder/yardstick" "$YARDSTICK"
+fi
+
+# least SO_FAR WORDS: the least of the user times so far, in seconds, and that of one run of a command,
+# which leaves its report in $folder/report.
+least() {
+    local so_far=$1 seconds
+    shift
+    TIMEFORMAT=%U
+    seconds=$({ time "$@" >/dev/null 2>"$folder/report"; } 2>&1)
+    awk -v a="$so_far" -v b="$seconds" 'BEGIN { print (a == "" || b < a) ? b : a }'
+}
+
+for name in "${programs[@]}"; do
+    ours= theirs=
     for ((run = 1; run <= runs; run++)); do
-        TIMEFORMAT=%U
-        seconds=$({ time "$program" run "$folder/$loop" 1 >/dev/null 2>"$folder/report"; } 2>&1)
-        if [ "$(tail -n 1 "$folder/report")" != "exit 0" ]; then
+        if [ -n "${YARDSTICK:-}" ]; then
+            theirs=$(least "$theirs" "$folder/yardstick" "$folder/$name")
+            expected=$(awk '$1 == "steps" { print $2 }' "$folder/report")
+        fi
+        ours=$(least "$ours" "$program" run "$folder/$name" 1)
+        steps=$(awk '$1 == "steps" { print $2 }' "$folder/report")
+        if [ "$(tail -n 1 "$folder/report")" != "exit 0" ] || [ "${expected:-$steps}" != "$steps" ]; then
             cat "$folder/report" >&2
             exit 1
         fi
-        steps=$(awk '$1 == "steps" { print $2 }' "$folder/report")
-        if [ -z "$best" ] || awk "BEGIN { exit !($seconds < $best) }"; then
-            best=$seconds
-        fi
     done
-    awk -v loop="$loop" -v steps="$steps" -v seconds="$best" 'BEGIN {
-        printf "%s: %d instructions in %s s of user time, %.0f million a second\n", loop, steps, seconds, steps / seconds / 1e6
+    awk -v name="$name" -v steps="$steps" -v ours="$ours" -v theirs="$theirs" 'BEGIN {
+        printf "%s: %d instructions in %s s of user time, %.0f million a second", name, steps, ours, steps / ours / 1e6
+        if (theirs != "") printf "; the yardstick %s s, %.2f of it", theirs, ours / theirs
+        print ""
     }'
 done
