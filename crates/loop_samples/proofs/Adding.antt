@@ -1,17 +1,16 @@
 -- The loop that adds arrays: each of its visits, tested.
-use Rattle.std.proofs.Common.{◌≡◌, ◌≢◌, ℕ, zero, suc, ◌+◌, ◌-◌, ◌*◌, ◌/◌, ◌%◌, ◌<◌, ◌≤◌, ◌⊎◌, inl, inr, List, [], ◌∷◌, Bool, true, false, ◌&&◌, refl, ap, sym, ◌∙◌, subst, arith, if◌then◌else◌, ◌==◌, nat_lt, nat_le}
+use Rattle.std.proofs.Common.{◌≡◌, ℕ, zero, suc, ◌+◌, ◌*◌, ◌/◌, ◌%◌, ◌<◌, ◌≤◌, ◌⊎◌, inl, inr, Bool, true, false, ◌&&◌, refl, ap, sym, ◌∙◌, subst, arith, ◌==◌, nat_lt, nat_le}
 use Rattle.std.proofs.lemmas.Bool.Decides.{nat_tests}
 use native.Mathlib.Decide.{dec_le}
 use Rattle.rv64_decode.specs.Ask.{Ask, Nothing, Loads, Stores}
 use Rattle.rv64_decode.specs.declared.memory.Width.TheVariants.{Eight}
-use Rattle.rv64_decode.specs.declared.outcome.Next.{Next}
-use Rattle.rv64_decode.specs.declared.outcome.Next.TheVariants.{At, Call, Fault as Faulting}
+use Rattle.rv64_decode.specs.declared.outcome.Next.TheVariants.{At}
 use Rattle.loop_data.specs.Nests.{has}
-use Rattle.loop_data.specs.Runs.{State, step, run, walk, pc_in, goes_at, access}
+use Rattle.loop_data.specs.Runs.{step, run, walk, pc_in, goes_at, access}
 use Rattle.rv64_decode.specs.Area.{Area}
-use Rattle.loop_data.specs.Turns.{IsSameArea, AtLoop, turn, IsArrival, covers, loads_byte, stores_byte, Reads, Writes, Leaves, Stays}
+use Rattle.loop_data.specs.Turns.{IsSameArea, AtLoop, turn, IsArrival, covers, loads_byte, stores_byte, Reads, Writes, Stays}
 use Rattle.loop_data.specs.Locations.{no_cells}
-use Rattle.loop_data.specs.Independent.{Role, Keeps, IsOutside, AreApart, Independent}
+use Rattle.loop_data.specs.Independent.{Keeps, AreApart, Independent}
 use Rattle.loop_samples.specs.AddLoop.{add_loop, areas, arrays, add_roles}
 use Rattle.loop_samples.proofs.Visits.{Visit, visit, all_visits, and_true, passes_test, turns_from}
 use Rattle.loop_samples.proofs.Tests.{same_access, same_loads, same_stores, goes_is, eq_from, turn_test, IsTested, turns_from_test, roles_from_test, no_cells_kept, no_cells_same}

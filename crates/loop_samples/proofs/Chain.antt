@@ -1,14 +1,14 @@
 -- The loop that copies each number onto the next: what one turn stores the next one loads.
-use Rattle.std.proofs.Common.{◌≡◌, ◌≢◌, ℕ, suc, ◌+◌, ◌*◌, ◌/◌, ◌%◌, ◌<◌, ◌≤◌, List, [], ◌∷◌, Bool, true, false, ◌&&◌, refl, ap, sym, ◌∙◌, arith, ◌==◌}
+use Rattle.std.proofs.Common.{◌≡◌, ℕ, ◌+◌, ◌*◌, ◌/◌, ◌%◌, ◌≤◌, Bool, true, false, ◌&&◌, refl, ap, ◌∙◌, arith, ◌==◌}
 use Rattle.std.proofs.lemmas.Bool.Decides.{nat_tests}
 use Rattle.rv64_decode.specs.declared.outcome.Next.TheVariants.{At}
-use Rattle.loop_data.specs.Runs.{State, step, run, goes_at}
+use Rattle.loop_data.specs.Runs.{step, run, goes_at}
 use Rattle.loop_data.specs.Turns.{turn, IsArrival, Reads, Writes}
 use Rattle.loop_data.specs.Locations.{no_cells}
-use Rattle.loop_data.specs.Independent.{Keeps, AreTurns, AreCells, AreApart, HaveRoles}
+use Rattle.loop_data.specs.Independent.{Keeps, AreTurns, AreApart, HaveRoles}
 use Rattle.loop_samples.specs.ChainLoop.{chain_loop, numbers, chain_roles}
 use Rattle.loop_samples.proofs.Visits.{Visit, visit, all_visits, and_true, passes_test}
-use Rattle.loop_samples.proofs.Tests.{goes_is, eq_from, turn_test, IsTested, turns_from_test, roles_from_test, no_cells_kept, no_cells_same}
+use Rattle.loop_samples.proofs.Tests.{goes_is, eq_from, turn_test, IsTested, turns_from_test, roles_from_test, no_cells_same}
 
 abbrev regular : ℕ → Visit → Bool
 regular n v = (v.turn == n / 4) && goes_at (λ pc. pc == 0x1_0000 + 4 * (n % 4)) v.state.next

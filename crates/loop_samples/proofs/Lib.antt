@@ -3,3 +3,4 @@ pub mod Tests
 pub mod Adding
 pub mod Chain
 pub mod Summing
+pub mod Nested

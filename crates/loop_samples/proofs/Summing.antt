@@ -1,10 +1,9 @@
 -- The loop that sums up: no register that it writes has a role.
-use Rattle.std.proofs.Common.{◌≡◌, ◌≢◌, ℕ, suc, ◌+◌, ◌*◌, ◌/◌, ◌%◌, ◌<◌, ◌≤◌, List, [], ◌∷◌, Bool, true, false, ◌&&◌, refl, ap, sym, ◌∙◌, subst, arith, ◌==◌, pos, ℤ, ◌+ℤ◌, ◌*ℤ◌}
+use Rattle.std.proofs.Common.{◌≡◌, ℕ, ◌<◌, true, false, refl, sym, ◌∙◌, subst, arith, pos, ℤ, ◌+ℤ◌, ◌*ℤ◌}
 use Rattle.std.proofs.lemmas.Int.{ints}
-use Rattle.rv64_decode.specs.declared.outcome.Next.TheVariants.{At}
 use Rattle.linear_forms.specs.Forms.{Alike, word_of}
 use Rattle.linear_forms.proofs.Sums.{word_alike}
-use Rattle.loop_data.specs.Runs.{State, step, run, goes_at, walk, instr, instr_at}
+use Rattle.loop_data.specs.Runs.{step, run, walk, instr, instr_at}
 use Rattle.loop_data.specs.Turns.{turn, seen, IsArrival}
 use Rattle.loop_data.specs.Locations.{no_cells, value_of, word_reads, some_writes}
 use Rattle.loop_data.specs.Independent.{Role, Keeps, Moves, Private, HaveRoles}

@@ -1,18 +1,21 @@
 -- What the first turns of a loop without cells are tested for, and what the tests give.
-use Rattle.std.proofs.Common.{◌≡◌, ◌≢◌, ℕ, zero, suc, ◌+◌, ◌-◌, ◌<◌, ◌≤◌, List, [], ◌∷◌, Bool, true, false, ◌&&◌, Option, Some, None, refl, ap, sym, ◌∙◌, subst, arith, if◌then◌else◌, ◌==◌, nat_lt, nat_le, pos, ℤ, ◌+ℤ◌, ◌*ℤ◌}
+use Rattle.std.proofs.Common.{◌≡◌, ◌≢◌, ℕ, zero, suc, ◌+◌, ◌<◌, ◌≤◌, List, [], ◌∷◌, Bool, true, false, ◌&&◌, ◌||◌, not, length, Option, Some, None, refl, ap, ◌∙◌, subst, arith, ◌==◌, nat_lt, nat_le, pos, ℤ, ◌+ℤ◌, ◌*ℤ◌}
 use Rattle.std.proofs.lemmas.Bool.Decides.{nat_tests}
 use native.Mathlib.Decide.{dec_le}
 use Rattle.rv64_decode.specs.Area.{bytes_of}
 use Rattle.rv64_decode.specs.Ask.{Ask, Nothing, Loads, Stores}
 use Rattle.rv64_decode.specs.declared.outcome.Next.{Next}
 use Rattle.rv64_decode.specs.declared.outcome.Next.TheVariants.{At, Call, Fault as Faulting}
+use Rattle.rv64_decode.specs.declared.memory.Width.{Width}
+use Rattle.rv64_decode.specs.declared.memory.Width.TheVariants.{One, Two, Four, Eight}
+use Rattle.loop_data.specs.declared.verdict.Cell.{Cell}
 use Rattle.linear_forms.specs.Forms.{word_of}
 use Rattle.loop_data.specs.declared.shape.Level.{Level}
 use Rattle.loop_data.specs.Nests.{has}
 use Rattle.loop_data.specs.Runs.{State, step, run, walk, pc_in, goes_at, instr, instr_at, access}
 use Rattle.loop_data.specs.Turns.{arrives, turn, seen, IsArrival, covers, loads_byte, stores_byte}
-use Rattle.loop_data.specs.Locations.{CellMap, no_cells, value_of, word_reads, some_writes}
-use Rattle.loop_data.specs.Independent.{Role, Keeps, Moves, Private, AreTurns, AreCells, HaveRoles}
+use Rattle.loop_data.specs.Locations.{CellMap, no_cells, cell_at, address, width_of, value_of, word_reads, some_writes}
+use Rattle.loop_data.specs.Independent.{Role, Keeps, Moves, Private, IsAccess, in_cell, AreTurns, AreCells, HaveRoles}
 use Rattle.loop_samples.proofs.Visits.{Visit, visit, all_visits, and_true, passes_test, turns_from, later_arrival}
 
 -- the test holds of all numbers below
@@ -217,3 +220,148 @@ no_cells_kept l s p =
 
 pub no_cells_same : (regs : List ℕ) (s x : State) (r : ℕ) → 32 ≤ r → value_of no_cells regs x r ≡ value_of no_cells regs s r
 no_cells_same regs s x r h = let f : nat_lt r 32 ≡ false = grind (arith, nat_tests) in rw f refl
+
+-- widths by their bytes
+same_width : (v w : Width) → (bytes_of v == bytes_of w) ≡ true → v ≡ w
+same_width One One e = refl
+same_width One Two e = absurd (cc)
+same_width One Four e = absurd (cc)
+same_width One Eight e = absurd (cc)
+same_width Two One e = absurd (cc)
+same_width Two Two e = refl
+same_width Two Four e = absurd (cc)
+same_width Two Eight e = absurd (cc)
+same_width Four One e = absurd (cc)
+same_width Four Two e = absurd (cc)
+same_width Four Four e = refl
+same_width Four Eight e = absurd (cc)
+same_width Eight One e = absurd (cc)
+same_width Eight Two e = absurd (cc)
+same_width Eight Four e = absurd (cc)
+same_width Eight Eight e = refl
+
+abbrev pub is_access : Ask → ℕ → Width → Bool
+is_access Nothing addr width = false
+is_access (Loads a w) addr width = (a == addr) && (bytes_of w == bytes_of width)
+is_access (Stores a w x) addr width = (a == addr) && (bytes_of w == bytes_of width)
+
+access_is : (a : Ask) (addr : ℕ) (width : Width) → is_access a addr width ≡ true → IsAccess a addr width
+access_is Nothing addr width e = absurd (cc)
+access_is (Loads a w) addr width e = let q = and_true (a == addr) (bytes_of w == bytes_of width) e in (eq_from a addr q.0, same_width w width q.1)
+access_is (Stores a w x) addr width e = let q = and_true (a == addr) (bytes_of w == bytes_of width) e in (eq_from a addr q.0, same_width w width q.1)
+
+-- two ranges of bytes are apart
+abbrev pub apart : ℕ → ℕ → ℕ → ℕ → Bool
+apart a n b m = nat_le (a + n) b || nat_le (b + m) a
+
+apart_is : (a n b m x : ℕ) → apart a n b m ≡ true → covers b m x ≡ true → covers a n x ≡ false
+apart_is a n b m x e h = go (nat_le a x) (nat_lt x (a + n)) refl refl
+  where
+    go : (c d : Bool) → nat_le a x ≡ c → nat_lt x (a + n) ≡ d → (c && d) ≡ false
+    go false d p q = refl
+    go true false p q = refl
+    go true true p q =
+        let r = and_true (nat_le b x) (nat_lt x (b + m)) h in
+        let s : nat_le b x ≡ true = r.0 in let t : nat_lt x (b + m) ≡ true = r.1 in
+        by (nat_le (a + n) b) (nat_le (b + m) a) refl refl e (grind (arith, nat_tests)) (grind (arith, nat_tests)) (grind (arith, nat_tests)) (grind (arith, nat_tests))
+      where
+        by : (u v : Bool) → nat_le (a + n) b ≡ u → nat_le (b + m) a ≡ v → (u || v) ≡ true → a ≤ x → x < a + n → b ≤ x → x < b + m → true ≡ false
+        by true v f g k la ha lb hb = let z : a + n ≤ b = grind (arith, nat_tests) in absurd (omega arith)
+        by false true f g k la ha lb hb = let z : b + m ≤ a = grind (arith, nat_tests) in absurd (omega arith)
+        by false false f g k la ha lb hb = absurd (cc)
+
+abbrev pub loads_apart : Ask → ℕ → ℕ → Bool
+loads_apart Nothing b m = true
+loads_apart (Loads a w) b m = apart a (bytes_of w) b m
+loads_apart (Stores a w x) b m = true
+
+abbrev pub stores_apart : Ask → ℕ → ℕ → Bool
+stores_apart Nothing b m = true
+stores_apart (Loads a w) b m = true
+stores_apart (Stores a w x) b m = apart a (bytes_of w) b m
+
+no_load : (a : Ask) (b m x : ℕ) → loads_apart a b m ≡ true → covers b m x ≡ true → loads_byte a x ≡ false
+no_load Nothing b m x e h = refl
+no_load (Loads a w) b m x e h = apart_is a (bytes_of w) b m x e h
+no_load (Stores a w y) b m x e h = refl
+
+no_store : (a : Ask) (b m x : ℕ) → stores_apart a b m ≡ true → covers b m x ≡ true → stores_byte a x ≡ false
+no_store Nothing b m x e h = refl
+no_store (Loads a w) b m x e h = refl
+no_store (Stores a w y) b m x e h = apart_is a (bytes_of w) b m x e h
+
+-- the tests of a visit for the cells: its own cell, and each cell by number
+abbrev pub own_cell : State → Ask → Option Cell → Bool
+own_cell s a None = true
+own_cell s a (Some c) = is_access a (address s.regs c) (width_of c)
+
+abbrev pub own_use : CellMap → State → Ask → Option ℕ → Bool
+own_use C s a None = true
+own_use C s a (Some k) = own_cell s a (cell_at C.cells k)
+
+abbrev pub is_use : Option ℕ → ℕ → Bool
+is_use None k = false
+is_use (Some j) k = j == k
+
+abbrev pub cell_test : State → Ask → Option ℕ → ℕ → Option Cell → Bool
+cell_test s a own k None = true
+cell_test s a own k (Some c) =
+    implies (c.stored && not (is_use own k)) (loads_apart a (address s.regs c) (bytes_of (width_of c)) && stores_apart a (address s.regs c) (bytes_of (width_of c)))
+    && implies (not c.stored) (stores_apart a (address s.regs c) (bytes_of (width_of c)))
+
+abbrev pub cells_test : CellMap → State → ℕ → Visit → Bool
+cells_test C s n v =
+    own_use C s (access v.state) (C.uses (pc_in v.state.next))
+    && below (length C.cells) (λ k. cell_test s (access v.state) (C.uses (pc_in v.state.next)) k (cell_at C.cells k))
+
+cell_below : (cs : List Cell) (k : ℕ) (c : Cell) → cell_at cs k ≡ Some c → k < length cs
+cell_below [] k c e = absurd (cc)
+cell_below (d ∷ cs) zero c e = omega arith
+cell_below (d ∷ cs) (suc k) c e = let h = cell_below cs k c e in omega arith
+
+not_use : (o : Option ℕ) (k : ℕ) → o ≢ Some k → is_use o k ≡ false
+not_use None k h = refl
+not_use (Some j) k h = go (j == k) refl
+  where
+    go : (b : Bool) → (j == k) ≡ b → b ≡ false
+    go true e = absurd (h (ap Some (eq_from j k e)))
+    go false e = refl
+
+module _ (l : Level) (C : CellMap) (s : State) (p k : ℕ) (tested : all_visits (cells_test C s) l k 0 (visit l s 0) ≡ true) (early : (n : ℕ) → turn l s n < p → n ≤ k) where
+  cells_at : (n : ℕ) → turn l s n < p → cells_test C s n (visit l s n) ≡ true
+  cells_at n h = passes_test (cells_test C s) l s k n tested (early n h)
+
+  own_part : (n : ℕ) → turn l s n < p → own_use C s (access (run s n)) (C.uses (walk s n)) ≡ true
+  own_part n h = (and_true _ _ (cells_at n h)).0
+
+  cell_part : (n j : ℕ) (c : Cell) → turn l s n < p → cell_at C.cells j ≡ Some c → cell_test s (access (run s n)) (C.uses (walk s n)) j (Some c) ≡ true
+  cell_part n j c h e =
+      let b = below_is (length C.cells) (λ i. cell_test s (access (run s n)) (C.uses (walk s n)) i (cell_at C.cells i)) j (and_true _ _ (cells_at n h)).1 (cell_below C.cells j c e) in
+      subst (λ o. cell_test s (access (run s n)) (C.uses (walk s n)) j o ≡ true) e b
+
+  own_at : (n j : ℕ) (c : Cell) → turn l s n < p → C.uses (walk s n) ≡ Some j → cell_at C.cells j ≡ Some c → is_access (access (run s n)) (address s.regs c) (width_of c) ≡ true
+  own_at n j c h e f =
+      let a = subst (λ o. own_use C s (access (run s n)) o ≡ true) e (own_part n h) in
+      subst (λ o. own_cell s (access (run s n)) o ≡ true) f a
+
+  touched_at : (n j b : ℕ) (c : Cell) → turn l s n < p → cell_at C.cells j ≡ Some c → c.stored ≡ true → C.uses (walk s n) ≢ Some j → in_cell s c b ≡ true
+      → (loads_byte (access (run s n)) b ≡ false) × (stores_byte (access (run s n)) b ≡ false)
+  touched_at n j b c h e f u i =
+      let x = and_true _ _ (cell_part n j c h e) in
+      let y : (c.stored && not (is_use (C.uses (walk s n)) j)) ≡ true = rw (f, not_use (C.uses (walk s n)) j u) refl in
+      let z = and_true _ _ (implied _ _ x.0 y) in
+      (no_load (access (run s n)) (address s.regs c) (bytes_of (width_of c)) b z.0 i, no_store (access (run s n)) (address s.regs c) (bytes_of (width_of c)) b z.1 i)
+
+  written_cell : (n j b : ℕ) (c : Cell) → turn l s n < p → cell_at C.cells j ≡ Some c → c.stored ≡ false → in_cell s c b ≡ true → stores_byte (access (run s n)) b ≡ false
+  written_cell n j b c h e f i =
+      let x = and_true _ _ (cell_part n j c h e) in
+      let y : not c.stored ≡ true = rw f refl in
+      no_store (access (run s n)) (address s.regs c) (bytes_of (width_of c)) b (implied _ _ x.1 y) i
+
+  pub cells_from_test : AreCells l C s p
+  cells_from_test =
+      record {
+        own = λ n j c h e f. access_is _ _ _ (own_at n j c h e f);
+        touched = touched_at;
+        written = written_cell;
+      }

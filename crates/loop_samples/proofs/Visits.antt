@@ -1,9 +1,8 @@
 -- Tests of the visits of a run, which the checker computes.
-use Rattle.std.proofs.Common.{◌≡◌, ◌≢◌, ℕ, zero, suc, ◌+◌, ◌-◌, ◌<◌, ◌≤◌, List, [], ◌∷◌, Bool, true, false, ◌&&◌, refl, ap, sym, ◌∙◌, subst, arith, if◌then◌else◌, ◌==◌, nat_lt, add-zero, add-suc}
-use Rattle.std.proofs.lemmas.Bool.Decides.{nat_tests}
+use Rattle.std.proofs.Common.{◌≡◌, ℕ, zero, suc, ◌+◌, ◌-◌, ◌<◌, ◌≤◌, List, [], ◌∷◌, Bool, true, false, ◌&&◌, refl, subst, arith, if◌then◌else◌, ◌==◌, add-zero, add-suc}
 use native.Mathlib.Decide.{dec_le}
 use Rattle.loop_data.specs.declared.shape.Level.{Level}
-use Rattle.loop_data.specs.Runs.{State, step, run, walk, pc_in, goes_at}
+use Rattle.loop_data.specs.Runs.{State, step, run, pc_in, goes_at}
 use Rattle.loop_data.specs.Turns.{arrives, turn, seen}
 
 -- a state of a run, its turn, and the words that this turn has executed before

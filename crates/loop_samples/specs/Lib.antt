@@ -2,3 +2,4 @@ pub mod Samples
 pub mod AddLoop
 pub mod ChainLoop
 pub mod SumLoop
+pub mod NestLoop

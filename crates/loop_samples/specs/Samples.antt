@@ -1,9 +1,7 @@
 -- What samples of loops are made of: words and numbers in memory, and registers.
-use Rattle.std.specs.Prelude.{ℕ, zero, suc, ◌+◌, ◌*◌, ◌/◌, ◌%◌, ◌==◌, true, false, if◌then◌else◌, List, [], ◌∷◌, ◌++◌}
+use Rattle.std.specs.Prelude.{ℕ, zero, suc, ◌+◌, ◌/◌, ◌%◌, true, false, List, [], ◌∷◌, ◌++◌}
 use Rattle.rv64_decode.specs.Area.{Area}
-use Rattle.rv64_decode.specs.declared.outcome.Next.TheVariants.{At}
 use Rattle.loop_data.specs.declared.shape.Level.{Level}
-use Rattle.loop_data.specs.Runs.{State}
 
 -- a number in so many bytes, the lowest first
 abbrev pub bytes_in : ℕ → ℕ → List ℕ

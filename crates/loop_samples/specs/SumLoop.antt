@@ -3,7 +3,7 @@
 --    0x10004  add   t2, t2, a4
 --    0x10008  addi  a0, a0, 8
 --    0x1000c  bne   a0, a3, 0x10000
-use Rattle.std.specs.Prelude.{List, [], ◌∷◌, ◌++◌}
+use Rattle.std.specs.Prelude.{[], ◌∷◌, ◌++◌}
 use Rattle.rv64_decode.specs.declared.outcome.Next.TheVariants.{At}
 use Rattle.loop_data.specs.declared.shape.Level.{Level}
 use Rattle.loop_data.specs.Runs.{State}

@@ -1,10 +1,12 @@
 ghost use Rattle.loop_data.specs.Independent.{Role, AreTurns, AreApart, HaveRoles, Independent};
-ghost use Rattle.loop_data.specs.Locations.{no_cells};
+ghost use Rattle.loop_data.specs.Holds.{FormsHold};
+ghost use Rattle.loop_data.specs.Locations.{no_cells, value_of};
 ghost use Rattle.loop_data.specs.Turns.{AtLoop, Stays};
 ghost use Rattle.loop_samples.specs.AddLoop.{add_loop, areas, arrays, add_roles, AddTurns, AddReads, AddWrites};
 ghost use Rattle.loop_samples.specs.ChainLoop.{chain_loop, numbers, chain_roles};
+ghost use Rattle.loop_samples.specs.NestLoop.{outer, nest, two_cells, counting, nest_roles, nest_forms, NestPasses, NestPassed};
 ghost use Rattle.loop_samples.specs.SumLoop.{sum_loop, powers};
-ghost use Rattle.std.specs.Prelude.{ℕ};
+ghost use Rattle.std.specs.Prelude.{ℕ, ◌≡◌, ◌-◌, ◌^◌};
 
 /// The loop that adds arrays of 20 numbers: its turns, the bytes that they read and write, and how many
 /// of them stay.
@@ -31,4 +33,23 @@ pub fn chain_loop_is_not()
 /// Where a turn needs a register of the turn before, no roles fit.
 pub fn sum_loop_is_not()
     ensures { (roles : ℕ → Role) → ¬ HaveRoles sum_loop no_cells roles powers 2 }
+{}
+
+/// The nest with two cells: the passes that one counts by hand at each visit of its four turns, and the
+/// values of its cells at the entry, of which the second has 4 bytes that stand for -5.
+pub fn nest_passes()
+    ensures passes { NestPasses }
+    ensures passed { NestPassed }
+    ensures counter { value_of two_cells counting.regs counting 32 ≡ 100 }
+    ensures number { value_of two_cells counting.regs counting 33 ≡ 2 ^ 64 - 5 }
+{}
+
+/// The forms at its words hold in the 3 turns that stay.
+pub fn nest_forms_hold()
+    ensures { FormsHold nest two_cells nest_forms counting 3 }
+{}
+
+/// Those turns are independent, the cell that each of them stores notwithstanding.
+pub fn nest_is_independent()
+    ensures { Independent outer two_cells nest_roles counting 3 }
 {}
