@@ -140,7 +140,13 @@ pure z = record { constant = z; terms = []; first = pos 0; second = pos 0; third
 -- the entry value of a location, and a step in each turn of the outermost loop
 abbrev pub moving : ℕ → ℤ → LinearForm
 moving r step =
-    record { constant = pos 0; terms = record { loc = r; by = pos 1 } ∷ []; first = step; second = pos 0; third = pos 0 }
+    record {
+      constant = pos 0;
+      terms = record { loc = r; by = pos 1 } ∷ [];
+      first = step;
+      second = pos 0;
+      third = pos 0;
+    }
 
 -- the terms stand in the order of their locations, each location once and from this one on, and no
 -- coefficient is 0

@@ -3,6 +3,7 @@ use Rattle.std.proofs.Common.{◌≡◌, ℕ, ◌+◌, ◌-◌, ◌≤◌, List,
 use Rattle.std.proofs.lemmas.Bool.Decides.{nat_tests}
 use Rattle.linear_forms.specs.declared.location.Loc.{Loc}
 use Rattle.linear_forms.specs.declared.location.Loc.TheVariants.{Reg, Cell}
+use Rattle.linear_forms.specs.Forms.{LinearForm}
 use Rattle.linear_forms.specs.Locations.{number_of, location_of, IsLocation, terms_of, pairs_of, AreLocations, AreFormTerms}
 
 -- a location is that of its number
@@ -28,8 +29,13 @@ list_back (t ∷ ts) h = rw (location_back t.0 h.0) (ap (λ xs. t ∷ xs) (list_
 pub pairs_back : (ts : List (Loc × ℤ)) → AreFormTerms ts → pairs_of (terms_of ts) ≡ ts
 pairs_back ts h = list_back ts h.locations
 
+-- the strides of a form as a list
+abbrev pub turns_of : LinearForm → List ℤ
+turns_of f = f.first ∷ f.second ∷ f.third ∷ []
+
 -- three strides are a list of them
-pub three_back : (zs : List ℤ) → length zs ≡ 3 → slice_index_or zs 0 (pos 0) ∷ slice_index_or zs 1 (pos 0) ∷ slice_index_or zs 2 (pos 0) ∷ [] ≡ zs
+pub three_back : (zs : List ℤ) → length zs ≡ 3
+    → slice_index_or zs 0 (pos 0) ∷ slice_index_or zs 1 (pos 0) ∷ slice_index_or zs 2 (pos 0) ∷ [] ≡ zs
 three_back [] h = absurd (omega arith)
 three_back (x ∷ []) h = absurd (omega arith)
 three_back (x ∷ y ∷ []) h = absurd (omega arith)

@@ -28,7 +28,7 @@ impl Model for Form {
     ghost use Rattle.std.specs.Prelude.{[], ◌∷◌};
     ghost use Rattle.linear_forms.specs.Forms.{LinearForm, form_of, IsBoundedBy};
     ghost use Rattle.std.proofs.Common.{ap};
-    ghost use Rattle.linear_forms.specs.Views.{three_back};
+    ghost use Rattle.linear_forms.specs.Views.{turns_of, three_back};
 
     ghost Value = { LinearForm };
 
@@ -36,9 +36,9 @@ impl Model for Form {
 
     ghost invariant = { λ f. IsBoundedBy f.constant f.terms f.turns };
 
-    ghost inverse = { λ f. record { constant = f.constant; terms = f.terms; turns = f.first ∷ f.second ∷ f.third ∷ [] } };
+    ghost inverse = { λ f. record { constant = f.constant; terms = f.terms; turns = turns_of f } };
 
-    ghost inverse_ok = { λ a h. ap (λ zs. record { constant = a.constant; terms = a.terms; turns = zs }) (three_back a.turns h.three) };
+    ghost inverse_ok = { λ a h. ap (λ zs. record a { turns = zs }) (three_back a.turns h.three) };
 }
 
 impl Form {

@@ -1,7 +1,7 @@
-ghost use Rattle.std.specs.Prelude.{◌≡◌, ◌+◌, ◌<◌, ◌≤◌, [], ◌∷◌, length, drop, true, false, pos, negsuc, ◌+ℤ◌, ◌*ℤ◌, MatchOption};
-ghost use Rattle.linear_forms.specs.Forms.{EntryTerm, merged, scaled_terms, is_small, are_limited, limited_terms};
+ghost use Rattle.std.specs.Prelude.{◌≡◌, ◌+◌, ◌<◌, ◌≤◌, [], ◌∷◌, length, drop, true, false, pos, negsuc, ◌+ℤ◌, ◌*ℤ◌};
+ghost use Rattle.linear_forms.specs.Forms.{EntryTerm, merged, scaled_terms, is_small, limited_terms};
 ghost use Rattle.linear_forms.specs.Locations.{IsLocation, number_of, term_of, terms_of, AreFormTerms};
-ghost use Rattle.linear_forms.specs.Merging.{IsNext, AddsTerm, PassesLimits, IsWhole};
+ghost use Rattle.linear_forms.specs.Merging.{IsNext, AddsTerm, PassesLimits, IsLimitedList};
 
 use crate::location::Loc;
 use arrayvec::ArrayVec;
@@ -217,7 +217,7 @@ fn rest(list: &[(Loc, i64)], from: usize) -> &[(Loc, i64)]
 fn merge(mut first: &[(Loc, i64)], mut second: &[(Loc, i64)]) -> Option<ArrayVec<(Loc, i64), 4>>
     requires first { AreFormTerms first.now }
     requires second { AreFormTerms second.now }
-    ensures { MatchOption result (are_limited (merged (terms_of first.now) (terms_of second.now)) ≡ false) (λ v. IsWhole v.items (merged (terms_of first.now) (terms_of second.now))) }
+    ensures { IsLimitedList result (merged (terms_of first.now) (terms_of second.now)) }
 {
     let mut list = ArrayVec::new();
     while first.len() + second.len() > 0 {
@@ -234,7 +234,7 @@ fn merge(mut first: &[(Loc, i64)], mut second: &[(Loc, i64)]) -> Option<ArrayVec
 /// The multiple of a list of terms, or none where it passes the limits.
 fn multiply(terms: &[(Loc, i64)], by: i64) -> Option<ArrayVec<(Loc, i64), 4>>
     requires { AreFormTerms terms.now }
-    ensures { MatchOption result (are_limited (scaled_terms by (terms_of terms.now)) ≡ false) (λ v. IsWhole v.items (scaled_terms by (terms_of terms.now))) }
+    ensures { IsLimitedList result (scaled_terms by (terms_of terms.now)) }
 {
     let mut list = ArrayVec::new();
     for term in terms {

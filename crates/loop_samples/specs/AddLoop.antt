@@ -27,7 +27,8 @@ add_loop =
     }
 
 abbrev pub words : List ℕ
-words = 0x0005_B703 ∷ 0x0006_3783 ∷ 0x00F7_0733 ∷ 0x00E5_3023 ∷ 0x0085_8593 ∷ 0x0086_0613 ∷ 0x0085_0513 ∷ 0xFED5_92E3 ∷ []
+words =
+    0x0005_B703 ∷ 0x0006_3783 ∷ 0x00F7_0733 ∷ 0x00E5_3023 ∷ 0x0085_8593 ∷ 0x0086_0613 ∷ 0x0085_0513 ∷ 0xFED5_92E3 ∷ []
 
 -- the numbers 0 to 19, their doubles, and room for their sums
 abbrev pub areas : List Area
@@ -38,7 +39,8 @@ abbrev pub arrays : State
 arrays =
     record {
       next = At 0x1_00F0;
-      regs = 0 ∷ 0 ∷ 0x7F7F_FFC0 ∷ 0 ∷ 0 ∷ 20 ∷ 38 ∷ 0 ∷ 0 ∷ 160 ∷ 0x2_0140 ∷ 0x2_0000 ∷ 0x2_00A0 ∷ 0x2_00A0 ∷ series 18 0 0;
+      regs =
+          0 ∷ 0 ∷ 0x7F7F_FFC0 ∷ 0 ∷ 0 ∷ 20 ∷ 38 ∷ 0 ∷ 0 ∷ 160 ∷ 0x2_0140 ∷ 0x2_0000 ∷ 0x2_00A0 ∷ 0x2_00A0 ∷ series 18 0 0;
       memory = areas;
     }
 

@@ -19,7 +19,9 @@ numbers =
     record {
       next = At 0x1_0000;
       regs = series 10 0 0 ++ 0x2_0000 ∷ 0 ∷ 0 ∷ 0x2_0020 ∷ series 18 0 0;
-      memory = code_area 0x1_0000 (0x0005_3703 ∷ 0x00E5_3423 ∷ 0x0085_0513 ∷ 0xFED5_1AE3 ∷ []) ∷ data_area 0x2_0000 (7 ∷ 0 ∷ 0 ∷ 0 ∷ 0 ∷ []) ∷ [];
+      memory =
+          code_area 0x1_0000 (0x0005_3703 ∷ 0x00E5_3423 ∷ 0x0085_0513 ∷ 0xFED5_1AE3 ∷ [])
+          ∷ data_area 0x2_0000 (7 ∷ 0 ∷ 0 ∷ 0 ∷ 0 ∷ []) ∷ [];
     }
 
 -- the address moves on by 8, and the number is loaded anew

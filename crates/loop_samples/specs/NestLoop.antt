@@ -8,7 +8,7 @@
 --    0x10018  bne   x6, x8, 0x10014
 --    0x1001c  addi  x5, x5, 1
 --    0x10020  bne   x5, x9, 0x10000
-use Rattle.std.specs.Prelude.{ℕ, ◌≡◌, ◌+◌, ◌-◌, ◌/◌, ◌%◌, ◌==◌, ◌<◌, Bool, true, false, ◌||◌, ◌&&◌, nat_lt, if◌then◌else◌, [], ◌∷◌, Option, Some, None, pos}
+use Rattle.std.specs.Prelude.{List, ℕ, ◌≡◌, ◌+◌, ◌-◌, ◌/◌, ◌%◌, ◌==◌, ◌<◌, Bool, true, false, ◌||◌, ◌&&◌, nat_lt, if◌then◌else◌, [], ◌∷◌, Option, Some, None, pos}
 use Rattle.rv64_decode.specs.declared.outcome.Next.TheVariants.{At}
 use Rattle.linear_forms.specs.Forms.{LinearForm, moving}
 use Rattle.loop_data.specs.declared.shape.Level.{Level}
@@ -52,6 +52,11 @@ used_by u = if u == 0x1_0000 then Some 0 else if u == 0x1_0004 then Some 1 else 
 abbrev pub two_cells : CellMap
 two_cells = record { cells = counter ∷ number ∷ []; uses = used_by }
 
+abbrev pub nest_words : List ℕ
+nest_words =
+    0x0001_3383 ∷ 0x0081_2503 ∷ 0x0013_8393 ∷ 0x0071_3023 ∷ 0x0000_0313 ∷ 0x0013_0313 ∷ 0xFE83_1EE3 ∷ 0x0012_8293
+    ∷ 0xFE92_90E3 ∷ []
+
 -- the cells hold 100 and -5; there are 4 turns, of 3 passes each
 abbrev pub counting : State
 counting =
@@ -59,15 +64,14 @@ counting =
       next = At 0x1_0000;
       regs = 0 ∷ 0 ∷ 0x2_0000 ∷ 0 ∷ 0 ∷ 0 ∷ 0 ∷ 0 ∷ 3 ∷ 4 ∷ series 22 0 0;
       memory =
-          code_area 0x1_0000 (0x0001_3383 ∷ 0x0081_2503 ∷ 0x0013_8393 ∷ 0x0071_3023 ∷ 0x0000_0313 ∷ 0x0013_0313 ∷ 0xFE83_1EE3 ∷ 0x0012_8293 ∷ 0xFE92_90E3 ∷ [])
-          ∷ data_area 0x2_0000 (100 ∷ 0xFFFF_FFFB ∷ []) ∷ [];
+          code_area 0x1_0000 nest_words ∷ data_area 0x2_0000 (100 ∷ 0xFFFF_FFFB ∷ []) ∷ [];
     }
 
 -- x5 and the counter move on by 1; x6, x7 and x10 are written anew
 abbrev pub nest_roles : ℕ → Role
 nest_roles r =
-    if r == 5 then Moves (pos 1) else if r == 32 then Moves (pos 1) else if r == 6 then Private else if r == 7 then Private
-    else if r == 10 then Private else Keeps
+    if r == 5 then Moves (pos 1) else if r == 32 then Moves (pos 1) else if r == 6 then Private
+    else if r == 7 then Private else if r == 10 then Private else Keeps
 
 -- the pass of the inner loop, by the number of the visit in its turn
 abbrev pub inner_pass : ℕ → ℕ
@@ -76,7 +80,8 @@ inner_pass i = if nat_lt i 5 then 0 else (if nat_lt i 11 then (i - 5) / 2 else 0
 -- at each visit of the four turns, the passes by depth
 abbrev pub NestPasses : Type 0
 NestPasses = (n : ℕ) → n < 52
-    → (passes nest (walk counting) n 0 ≡ n / 13) × (passes nest (walk counting) n 1 ≡ inner_pass (n % 13)) × (passes nest (walk counting) n 2 ≡ 0)
+    → (passes nest (walk counting) n 0 ≡ n / 13) × (passes nest (walk counting) n 1 ≡ inner_pass (n % 13))
+    × (passes nest (walk counting) n 2 ≡ 0)
 
 -- before visit 8 the inner loop's pass has visited its header, and before visit 3 the turn three words
 pub record NestPassed : Type 0 where
@@ -85,7 +90,14 @@ pub record NestPassed : Type 0 where
 
 -- one more than a location's value at the entry, and one more in each turn
 abbrev pub one_on : ℕ → LinearForm
-one_on r = record { constant = pos 1; terms = record { loc = r; by = pos 1 } ∷ []; first = pos 1; second = pos 0; third = pos 0 }
+one_on r =
+    record {
+      constant = pos 1;
+      terms = record { loc = r; by = pos 1 } ∷ [];
+      first = pos 1;
+      second = pos 0;
+      third = pos 0;
+    }
 
 -- so much, and so much more in each pass
 abbrev pub counted : ℕ → ℕ → LinearForm
@@ -95,8 +107,10 @@ counted more each = record { constant = pos more; terms = []; first = pos 0; sec
 abbrev pub nest_forms : ℕ → ℕ → Option LinearForm
 nest_forms u r =
     if r == 0 then None else if r == 5 then (if nat_lt u 0x1_0020 then Some (moving 5 (pos 1)) else Some (one_on 5))
-    else if r == 6 then (if u == 0x1_0014 then Some (counted 0 1) else if u == 0x1_0018 then Some (counted 1 1) else None)
-    else if r == 7 then (if nat_lt u 0x1_0004 then None else if nat_lt u 0x1_000C then Some (moving 32 (pos 1)) else Some (one_on 32))
+    else if r == 6
+    then (if u == 0x1_0014 then Some (counted 0 1) else if u == 0x1_0018 then Some (counted 1 1) else None)
+    else if r == 7
+    then (if nat_lt u 0x1_0004 then None else if nat_lt u 0x1_000C then Some (moving 32 (pos 1)) else Some (one_on 32))
     else if r == 10 then (if nat_lt u 0x1_0008 then None else Some (moving 33 (pos 0)))
     else if r == 32 then (if nat_lt u 0x1_0010 then Some (moving 32 (pos 1)) else Some (one_on 32))
     else if nat_lt r 34 then Some (moving r (pos 0)) else None

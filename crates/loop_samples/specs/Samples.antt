@@ -34,4 +34,10 @@ data_area low numbers =
 -- a loop of four words, left at its last
 abbrev pub short_loop : Level
 short_loop =
-    record { header = 0x1_0000; body = 0x1_0000 ∷ 0x1_0004 ∷ 0x1_0008 ∷ 0x1_000C ∷ []; back = 0x1_000C; exit = 0x1_000C; depth = 0 }
+    record {
+      header = 0x1_0000;
+      body = 0x1_0000 ∷ 0x1_0004 ∷ 0x1_0008 ∷ 0x1_000C ∷ [];
+      back = 0x1_000C;
+      exit = 0x1_000C;
+      depth = 0;
+    }

@@ -18,5 +18,7 @@ powers =
     record {
       next = At 0x1_0000;
       regs = series 10 0 0 ++ 0x2_0000 ∷ 0 ∷ 0 ∷ 0x2_0020 ∷ series 18 0 0;
-      memory = code_area 0x1_0000 (0x0005_3703 ∷ 0x00E3_83B3 ∷ 0x0085_0513 ∷ 0xFED5_1AE3 ∷ []) ∷ data_area 0x2_0000 (1 ∷ 2 ∷ 4 ∷ 8 ∷ []) ∷ [];
+      memory =
+          code_area 0x1_0000 (0x0005_3703 ∷ 0x00E3_83B3 ∷ 0x0085_0513 ∷ 0xFED5_1AE3 ∷ [])
+          ∷ data_area 0x2_0000 (1 ∷ 2 ∷ 4 ∷ 8 ∷ []) ∷ [];
     }
