@@ -175,7 +175,7 @@ byte_below (a ∷ rest) x k = go (holds a x) (byte_below rest x k.1)
     go false l = l
 
 -- a list with one number set
-set_below : (xs : List ℕ) (t v r bound : ℕ) → ((q : ℕ) → get_or xs q 0 < bound) → v < bound → get_or (set xs t v) r 0 < bound
+pub set_below : (xs : List ℕ) (t v r bound : ℕ) → ((q : ℕ) → get_or xs q 0 < bound) → v < bound → get_or (set xs t v) r 0 < bound
 set_below xs t v r bound all lt = go (r == t) refl (dec_le (length xs) t)
   where
     go : (b : Bool) → (r == t) ≡ b → Dec (length xs ≤ t) → get_or (set xs t v) r 0 < bound
@@ -217,7 +217,7 @@ number_1 m x k = let a = byte_below m x k in omega arith
 number_2 : (m : List Area) (x : ℕ) → AreBytes m → number_at 2 m x < 2 ^ 16
 number_2 m x k = let a = byte_below m x k in let b = byte_below m (suc x) k in omega arith
 
-number_4 : (m : List Area) (x : ℕ) → AreBytes m → number_at 4 m x < 2 ^ 32
+pub number_4 : (m : List Area) (x : ℕ) → AreBytes m → number_at 4 m x < 2 ^ 32
 number_4 m x k = let a = number_2 m x k in let b = number_2 m (suc (suc x)) k in omega arith
 
 number_8 : (m : List Area) (x : ℕ) → AreBytes m → number_at 8 m x < 2 ^ 64
@@ -233,14 +233,14 @@ loaded_below Lwu m x k = let a = number_4 m x k in omega arith
 loaded_below Ld m x k = number_8 m x k
 
 -- what a register reads is a word
-register_below : (regs : List ℕ) (r : ℕ) → AreWords regs → register regs r < 2 ^ 64
+pub register_below : (regs : List ℕ) (r : ℕ) → AreWords regs → register regs r < 2 ^ 64
 register_below regs r ok = go (r == 0)
   where
     go : (b : Bool) → (if b then 0 else get_or regs r 0) < 2 ^ 64
     go true = omega arith
     go false = ok.below r
 
-written : (regs : List ℕ) (t v : ℕ) → v < 2 ^ 64 → AreWords regs → AreWords (with_register regs t v)
+pub written : (regs : List ℕ) (t v : ℕ) → v < 2 ^ 64 → AreWords regs → AreWords (with_register regs t v)
 written regs t v lt ok = go (t == 0) refl
   where
     go : (b : Bool) → (t == 0) ≡ b → AreWords (if b then regs else set regs t v)

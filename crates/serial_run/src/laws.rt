@@ -1,6 +1,9 @@
-ghost use Rattle.std.specs.Prelude.{◌≡◌, ◌≤◌, ◌++◌, ℕ, List, Some, IsSome, IsNone};
+ghost use Rattle.std.specs.Prelude.{◌≡◌, ◌≤◌, ◌++◌, ℕ, List, Some, IsSome, IsNone, ◌<◌, All};
 ghost use Rattle.rv64_decode.specs.declared.outcome.Fault.{Fault};
-ghost use Rattle.serial_run.specs.Serial.{State, IsEnding, ended, with_ending, step, serial, executed_of};
+ghost use Rattle.elf_image.specs.Layout.{IsLoadable};
+ghost use Rattle.elf_image.specs.declared.image.Elf.{Elf};
+ghost use Rattle.serial_run.specs.Sound.{HaveBytes, IsSound};
+ghost use Rattle.serial_run.specs.Serial.{State, start_of, IsEnding, ended, with_ending, step, serial, executed_of};
 
 use crate::machine::End;
 
@@ -32,4 +35,10 @@ pub fn input_is_only_taken()
 pub fn output_only_grows()
     ensures { (n m : ℕ) (s : State) → n ≤ m
         → (more : List ℕ) × ((serial m s).output ≡ (serial n s).output ++ more) }
+{}
+
+/// What is true of every state of an executable's run.
+pub fn states_are_sound()
+    ensures { (elf : Elf) (input : List ℕ) (n : ℕ) → IsLoadable elf → HaveBytes elf.segments
+        → All (λ b. b < 256) input → IsSound elf (serial n (start_of elf input)) }
 {}

@@ -6,7 +6,9 @@ mod machine;
 mod running;
 mod table;
 
-pub use laws::{faults_change_nothing, first_ending, input_is_only_taken, output_only_grows};
+pub use laws::{
+    faults_change_nothing, first_ending, input_is_only_taken, output_only_grows, states_are_sound,
+};
 pub use machine::{End, Machine};
 pub use running::{Ran, run_counted, run_serial, start, step_serial};
 

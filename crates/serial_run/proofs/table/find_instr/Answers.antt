@@ -1,1 +1,0 @@
-use Rattle.serial_run.proofs.table.find_instr.Goals as goal
