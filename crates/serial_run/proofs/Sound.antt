@@ -81,7 +81,7 @@ pub record IsSoundCall (elf : Elf) (c : Called) : Type 0 where
   pub unread : All (λ b. b < 256) c.rest
 
 module _ (elf : Elf) (regs : List ℕ) (m : List Area) (brk : Brk) (rest : List ℕ) (ok : AreWords regs) (bytes : AreBytes m)
-  (areas : KeepAreas (areas_of elf) m) (low : brk.at < 2 ^ 64) (unread : All (λ b. b < 256) rest) where
+    (areas : KeepAreas (areas_of elf) m) (low : brk.at < 2 ^ 64) (unread : All (λ b. b < 256) rest) where
   answered_sound : (value : ℕ) → value < 2 ^ 64 → IsSoundCall elf (answered value regs m brk rest)
   answered_sound value l =
       record { registers = written regs 10 value l ok; bytes = bytes; areas = areas; break_word = low; unread = unread }
@@ -120,9 +120,11 @@ module _ (elf : Elf) (regs : List ℕ) (m : List Area) (brk : Brk) (rest : List 
       value true c = omega arith
       value false true = omega arith
       value false false = let l = register_below regs 12 ok in let t = length-take (a2 regs) rest in omega arith
+
       taken_bytes : (b : Bool) → All (λ v. v < 256) (if b then take (a2 regs) rest else [])
       taken_bytes true = All-take (λ v. v < 256) (a2 regs) rest unread
       taken_bytes false = λ k d l. absurd (omega arith)
+
       taken_open : (b c : Bool) → all_permitted writable_of (a2 regs) m (a1 regs) ≡ c → all_permitted writable_of (length (if b && c then take (a2 regs) rest else [])) m (a1 regs) ≡ true
       taken_open true true e = permitted_taken writable_of (a2 regs) (a2 regs) rest m (a1 regs) e (omega arith)
       taken_open true false e = refl
@@ -133,11 +135,11 @@ module _ (elf : Elf) (regs : List ℕ) (m : List Area) (brk : Brk) (rest : List 
   called_sound = go (a7 regs == 63) (a7 regs == 64) (a7 regs == 93 || a7 regs == 94) (a7 regs == 214)
     where
       go : (a b c d : Bool) → IsSoundCall elf
-        (if a then read_call regs m brk rest else
-         if b then write_call regs m brk rest else
-         if c then exit_call regs m brk rest else
-         if d then brk_call regs m brk rest else
-         answered (negated 38) regs m brk rest)
+          (if a then read_call regs m brk rest else
+          if b then write_call regs m brk rest else
+          if c then exit_call regs m brk rest else
+          if d then brk_call regs m brk rest else
+          answered (negated 38) regs m brk rest)
       go true b c d = read_sound
       go false true c d = write_sound
       go false false true d = exit_sound
