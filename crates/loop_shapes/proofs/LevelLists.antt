@@ -1,5 +1,5 @@
 -- The loops of a nest as levels.
-use Rattle.std.proofs.Common.{◌≡◌, ℕ, ◌+◌, ◌<◌, ◌≤◌, List, [], ◌∷◌, ◌++◌, length, get_or, map, take, ap, sym, ◌∙◌, subst}
+use Rattle.std.proofs.Common.{◌≡◌, inr, refl, Some, None, ℕ, ◌+◌, ◌<◌, ◌≤◌, List, [], ◌∷◌, ◌++◌, length, get_or, map, take, ap, sym, ◌∙◌, subst}
 use Rattle.std.specs.List.{Contains, All}
 use Rattle.std.proofs.lemmas.List.{map_push, take_more, take_all}
 use Rattle.std.proofs.lemmas.List.Elements.{All-push}
@@ -8,8 +8,11 @@ use Rattle.loop_data.specs.declared.shape.Level.{Level}
 use Rattle.loop_data.specs.Sets.{IsListOf}
 use Rattle.loop_data.specs.Shape.{InNest}
 use Rattle.loop_shapes.specs.Outside.{IsOutside}
-use Rattle.loop_data.specs.Early.{IsRound}
-use Rattle.loop_data.specs.Loops.{IsLevel, AreLevels, IsSoundNest}
+use Rattle.loop_data.specs.declared.shape.LoopShape.{LoopShape}
+use Rattle.loop_data.specs.declared.verdict.Verdict.TheVariants.{Limit}
+use Rattle.loop_data.specs.Bodies.{IsHeader}
+use Rattle.loop_data.specs.Early.{IsRound, IsPlain, IsMisshapen, IsSmallNest, IsEarly}
+use Rattle.loop_data.specs.Loops.{IsLevel, AreLevels, IsSoundNest, HasLevels, IsLoop}
 use Rattle.loop_shapes.proofs.Leasts.{most_by}
 use Rattle.loop_shapes.proofs.Shapes.{inner_by}
 
@@ -33,3 +36,18 @@ level_more G h inner i old new v li e f l a =
 
 pub levels_by : (G : Graph) (h : ℕ) (nest inner : List ℕ) (i : ℕ) (all : List Level) → IsListOf (InNest G h) nest → IsListOf (IsOutside nest (h ∷ [])) inner → length inner ≤ i → (map header_of all ≡ h ∷ take i inner) × All (IsLevel G h) all → AreLevels G h all
 levels_by G h nest inner i all is out l a = record { inner = inner; are_inner = inner_by G h nest inner is out; headers = a.0 ∙ ap (λ (q : List ℕ). h ∷ q) (take_all i inner l); each = a.1 }
+
+-- a nest past the limits, and one within them
+pub limit_loop : (G : Graph) (h : ℕ) (s : LoopShape) → IsHeader G h → s.header ≡ h → s.early ≡ Some (Limit h) → s.levels ≡ [] → IsPlain G h × ((k : ℕ) → ¬ IsMisshapen G h k) → ¬ IsSmallNest G h → IsLoop G s
+limit_loop G h s header e f l plain small = record {
+  header = subst (IsHeader G) (sym e) header;
+  early = subst (λ q. IsEarly G q s.early) (sym e) (subst (IsEarly G h) (sym f) (refl, inr (plain.0, plain.1, small)));
+  levels = subst (λ o. HasLevels G s.header o s.levels) (sym f) l;
+}
+
+pub sound_loop : (G : Graph) (h : ℕ) (s : LoopShape) → IsHeader G h → s.header ≡ h → s.early ≡ None → AreLevels G h s.levels → IsPlain G h × ((k : ℕ) → ¬ IsMisshapen G h k) → IsSmallNest G h → IsLoop G s
+sound_loop G h s header e f l plain small = record {
+  header = subst (IsHeader G) (sym e) header;
+  early = subst (λ q. IsEarly G q s.early) (sym e) (subst (IsEarly G h) (sym f) (plain.0, plain.1, small));
+  levels = subst (λ o. HasLevels G s.header o s.levels) (sym f) (subst (λ q. AreLevels G q s.levels) (sym e) l);
+}

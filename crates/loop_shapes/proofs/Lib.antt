@@ -21,7 +21,7 @@ pub mod LevelLists
 pub mod Entries
 pub mod ListedLines
 pub mod Numbering
-pub mod Coverings
+pub mod ListedRows
 pub mod Listings
 pub mod PathGraphs
 pub mod PathBodies
@@ -31,3 +31,11 @@ pub mod Ranks
 pub mod BodyLaws
 pub mod NestWords
 pub mod NestLaws
+pub mod Nesting
+pub mod Settling
+pub mod Rounds
+pub mod Cutting
+pub mod Flagged
+pub mod Unsound
+pub mod Headers
+pub mod Spreading

@@ -1,5 +1,5 @@
 -- What is looked up in a program.
-use Rattle.std.proofs.Common.{◌≡◌, ℕ, ◌<◌, ◌↔◌, ◌==◌, not, Bool, true, List, [], length, get_or, sym, subst, arith}
+use Rattle.std.proofs.Common.{◌≡◌, ◌≢◌, ℕ, ◌<◌, ◌⊎◌, inl, inr, ◌↔◌, ◌==◌, not, Bool, true, List, [], length, get_or, sym, subst, arith}
 use Rattle.std.specs.List.{Contains}
 use Rattle.std.proofs.lemmas.Bool.Decides.{nat_tests}
 use Rattle.std.proofs.lemmas.List.Elements.{Contains-get_or}
@@ -7,9 +7,10 @@ use Rattle.loop_data.specs.declared.graph.Word.{Word}
 use Rattle.loop_data.specs.declared.graph.Graph.{Graph}
 use Rattle.loop_data.specs.Paths.{IsInOrder, IsWord, Leads}
 use Rattle.loop_shapes.specs.Places.{count_of, at}
-use Rattle.loop_data.specs.Bodies.{IsClosed, IsHeader, InBody}
+use Rattle.loop_data.specs.Bodies.{IsClosed, IsHeader, InPart, InBody}
 use Rattle.loop_shapes.specs.Net.{AreClosed}
 use Rattle.loop_shapes.proofs.Rows.{none_in, steps_at, leads_at}
+use Rattle.loop_data.proofs.Ways.{backward}
 use Rattle.loop_shapes.proofs.Parts.{place_of_source, word_at}
 
 -- whether a list has a number
@@ -56,3 +57,11 @@ no_steps G x absent y = (λ c. none_in y c, λ lead. absurd (absent (word_of_sou
 -- no loop stands where no word is
 pub no_body : (G : Graph) (h x : ℕ) → ¬ IsWord G h → InBody G h x → ⊥
 no_body G h x absent b = absent b.closed.word
+
+-- a word of a body is a word of the program
+pub word_of_body : (G : Graph) (h x : ℕ) → InBody G h x → IsWord G x
+word_of_body G h x b = by b.part
+  where
+    by : InPart G h b.source x → IsWord G x
+    by (inl e) = subst (IsWord G) (sym e) b.closed.word
+    by (inr r) = backward (Leads G) (λ z. z ≢ h) (IsWord G) b.source (word_of_source G b.source h b.closed.edge) (λ y z ny lead nz w. word_of_source G y z lead) x r

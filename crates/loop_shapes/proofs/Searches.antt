@@ -51,7 +51,7 @@ first_of_all : (xs : List ℕ) (i : ℕ) → i < length xs → (y : ℕ) → Con
 first_of_all xs i l y (inl c) = rw (take_more xs i 0 l) (Contains-append_left (take i xs) (get_or xs i 0 ∷ []) y c)
 first_of_all xs i l y (inr c) = rw (take_more xs i 0 l) (subst (Contains (take i xs ++ get_or xs i 0 ∷ [])) (alone (get_or xs i 0) y c) (Contains-push (take i xs) (get_or xs i 0)))
 
-among_all : (xs : List ℕ) (i : ℕ) → i < length xs → (y : ℕ) → Contains (take i xs) y ⊎ Contains (get_or xs i 0 ∷ []) y → Contains xs y
+pub among_all : (xs : List ℕ) (i : ℕ) → i < length xs → (y : ℕ) → Contains (take i xs) y ⊎ Contains (get_or xs i 0 ∷ []) y → Contains xs y
 among_all xs i l y (inl c) =
     let n = length-take-le i xs (omega arith) in
     let m = c.1 in
@@ -107,66 +107,86 @@ pub tried_full : (old xs new slots : List ℕ) (room : Bool) → room ≡ false 
 tried_full old xs new slots true e a = absurd (false≢true (sym e))
 tried_full old xs new slots false e a = a
 
--- two numbers are not 256
-pub started : (old new slots : List ℕ) (h u : ℕ) (room : Bool) → old ≡ h ∷ [] → HasTried room old (u ∷ []) new slots → HasRoom (h ∷ []) (u ∷ []) new slots
-started old new slots h u true e a = subst (λ (xs : List ℕ). HasRoom xs (u ∷ []) new slots) e a
-started old new slots h u false e a =
-    let n = a.full.count in
-    let f = a.full.few in
-    let m : length old ≡ 1 = ap length e in
-    absurd (omega arith)
+-- more members than there is room for
+pub over_full : (P : ℕ → Type 0) (old xs new slots : List ℕ) → HasNoRoom old xs new slots → ((i : ℕ) → Contains old i ⊎ Contains xs i → P i) → HasOver 256 P
+over_full P old xs new slots a all =
+    let F = a.full in
+    let n = F.count in
+    let m = length_push new F.extra in
+    record { members = new ++ F.extra ∷ []; apart = apart; bound = omega arith; each = λ x c. by x (Contains-push_cases new F.extra x c) }
+  where
+    by : (x : ℕ) → Contains new x ⊎ (a.full.extra ≡ x) → P x
+    by x (inl c) = all x (a.full.each x c)
+    by x (inr e) = all x (inr (subst (Contains xs) e a.full.among))
+
+    apart : AreDifferent (new ++ a.full.extra ∷ [])
+    apart i j lt lj e = at (cases_lt j (length new))
+      where
+        left : (k : ℕ) → k < length new → get_or (new ++ a.full.extra ∷ []) k 0 ≡ get_or new k 0
+        left k q = get_or_append_left new (a.full.extra ∷ []) 0 k q
+
+        at : (j < length new) ⊎ (length new ≤ j) → ⊥
+        at (inl q) = apart_from_indexed new slots a.indexed i j lt q (sym (left i (omega arith)) ∙ e ∙ left j q)
+        at (inr q) =
+            let m = length_push new a.full.extra in
+            let last : length new ≡ j = omega arith in
+            let p : i < length new = omega arith in
+            a.full.absent (subst (Contains new) (sym (left i p) ∙ e ∙ get_or_push new a.full.extra 0 j last) (Contains-get_or new i 0 p))
 
 -- what holds of a search that has gone through the numbers before next
-pub record Searching (rows : List (List ℕ)) (h u next : ℕ) (found slots : List ℕ) : Type 0 where
+pub record Searching (rows : List (List ℕ)) (h : ℕ) (us : List ℕ) (next : ℕ) (found slots : List ℕ) : Type 0 where
   pub from : 1 ≤ next
   pub to : next ≤ length found
   pub head : get_or found 0 0 ≡ h
   pub bound : length found ≤ 256
   pub indexed : IsIndexed found slots
-  pub sound : (i : ℕ) → Contains found i → InPlaces rows h u i
-  pub source : Contains found u
+  pub sound : (i : ℕ) → Contains found i → InPlaces rows h us i
+  pub sources : (u : ℕ) → Contains us u → Contains found u
   pub done : (k : ℕ) → 0 < k → k < next → (i : ℕ) → RowLeads rows i (get_or found k 0) → Contains found i
 
-at_source : (rows : List (List ℕ)) (h u i : ℕ) → u ≡ i → InPlaces rows h u i
-at_source rows h u i e = by (cases_eq i h)
+at_source : (rows : List (List ℕ)) (h : ℕ) (us : List ℕ) (i : ℕ) → Contains us i → InPlaces rows h us i
+at_source rows h us i c = by (cases_eq i h)
   where
-    by : (i ≡ h) ⊎ (i ≢ h) → InPlaces rows h u i
+    by : (i ≡ h) ⊎ (i ≢ h) → InPlaces rows h us i
     by (inl f) = inl f
-    by (inr ne) = inr (subst (λ (q : ℕ). Reaches (RowLeads rows) (λ j. j ≢ h) i q) (sym e) (stop (RowLeads rows) (λ j. j ≢ h) i ne))
+    by (inr ne) = inr (record { source = i; among = c; way = stop (RowLeads rows) (λ j. j ≢ h) i ne })
 
-pub search_started : (rows : List (List ℕ)) (h u : ℕ) (found slots : List ℕ) → HasRoom (h ∷ []) (u ∷ []) found slots → Searching rows h u 1 found slots
-search_started rows h u found slots a = record { from = omega arith; to = a.grown.longer; head = a.grown.same 0 (omega arith); bound = a.bound; indexed = a.indexed; sound = λ i c. by i (a.grown.each i c); source = a.grown.every u (from_in (u ∷ []) u (inl refl)); done = λ k l m. absurd (omega arith) }
-  where
-    by : (i : ℕ) → Contains (h ∷ []) i ⊎ Contains (u ∷ []) i → InPlaces rows h u i
-    by i (inl c) = inl (sym (alone h i c))
-    by i (inr c) = at_source rows h u i (alone u i c)
+starts_at : (rows : List (List ℕ)) (h : ℕ) (us : List ℕ) (i : ℕ) → Contains (h ∷ []) i ⊎ Contains us i → InPlaces rows h us i
+starts_at rows h us i (inl c) = inl (sym (alone h i c))
+starts_at rows h us i (inr c) = at_source rows h us i c
 
-before_next : (rows : List (List ℕ)) (h u y z : ℕ) → z ≢ h → RowLeads rows y z → InPlaces rows h u z → InPlaces rows h u y
-before_next rows h u y z ne lead (inl e) = absurd (ne e)
-before_next rows h u y z ne lead (inr r) = by (cases_eq y h)
+pub search_started : (rows : List (List ℕ)) (h : ℕ) (us found slots : List ℕ) → HasRoom (h ∷ []) us found slots → Searching rows h us 1 found slots
+search_started rows h us found slots a = record { from = omega arith; to = a.grown.longer; head = a.grown.same 0 (omega arith); bound = a.bound; indexed = a.indexed; sound = λ i c. starts_at rows h us i (a.grown.each i c); sources = a.grown.every; done = λ k l m. absurd (omega arith) }
+
+pub search_overfull : (rows : List (List ℕ)) (h : ℕ) (us found slots : List ℕ) → HasNoRoom (h ∷ []) us found slots → HasOver 256 (InPlaces rows h us)
+search_overfull rows h us found slots a = over_full (InPlaces rows h us) (h ∷ []) us found slots a (starts_at rows h us)
+
+before_next : (rows : List (List ℕ)) (h : ℕ) (us : List ℕ) (y z : ℕ) → z ≢ h → RowLeads rows y z → InPlaces rows h us z → InPlaces rows h us y
+before_next rows h us y z ne lead (inl e) = absurd (ne e)
+before_next rows h us y z ne lead (inr r) = by (cases_eq y h)
   where
-    by : (y ≡ h) ⊎ (y ≢ h) → InPlaces rows h u y
+    by : (y ≡ h) ⊎ (y ≢ h) → InPlaces rows h us y
     by (inl e) = inl e
-    by (inr n) = inr (step (RowLeads rows) (λ j. j ≢ h) y z u n lead r)
+    by (inr n) = inr (record { source = r.source; among = r.among; way = step (RowLeads rows) (λ j. j ≢ h) y z r.source n lead r.way })
 
 -- behind the first number the header does not stand again
-not_header : (rows : List (List ℕ)) (h u next : ℕ) (found slots : List ℕ) → Searching rows h u next found slots → (k : ℕ) → 0 < k → k < length found → get_or found k 0 ≢ h
-not_header rows h u next found slots s k l m e =
+not_header : (rows : List (List ℕ)) (h : ℕ) (us : List ℕ) (next : ℕ) (found slots : List ℕ) → Searching rows h us next found slots → (k : ℕ) → 0 < k → k < length found → get_or found k 0 ≢ h
+not_header rows h us next found slots s k l m e =
     let same = slot_of found slots s.indexed k 0 m (omega arith) (e ∙ sym s.head) in
     omega arith
 
-module _ (rows : List (List ℕ)) (h u next : ℕ) (found slots : List ℕ) (s : Searching rows h u next found slots) (more : next < length found) where
-  next_sound : (i : ℕ) → Contains found i ⊎ Contains (in_row rows (get_or found next 0)) i → InPlaces rows h u i
+module _ (rows : List (List ℕ)) (h : ℕ) (us : List ℕ) (next : ℕ) (found slots : List ℕ) (s : Searching rows h us next found slots) (more : next < length found) where
+  next_sound : (i : ℕ) → Contains found i ⊎ Contains (in_row rows (get_or found next 0)) i → InPlaces rows h us i
   next_sound i (inl c) = s.sound i c
   next_sound i (inr c) =
       let f = s.from in
-      before_next rows h u i (get_or found next 0) (not_header rows h u next found slots s next (omega arith) more) c (s.sound (get_or found next 0) (Contains-get_or found next 0 more))
+      before_next rows h us i (get_or found next 0) (not_header rows h us next found slots s next (omega arith) more) c (s.sound (get_or found next 0) (Contains-get_or found next 0 more))
 
-  pub search_more : (new slots' : List ℕ) → HasRoom found (in_row rows (get_or found next 0)) new slots' → Searching rows h u (next + 1) new slots'
+  pub search_more : (new slots' : List ℕ) → HasRoom found (in_row rows (get_or found next 0)) new slots' → Searching rows h us (next + 1) new slots'
   search_more new slots' a =
       let n = a.grown.longer in
       let f = s.from in
-      record { from = omega arith; to = omega arith; head = a.grown.same 0 (omega arith) ∙ s.head; bound = a.bound; indexed = a.indexed; sound = λ i c. next_sound i (a.grown.each i c); source = kept found (in_row rows (get_or found next 0)) new a.grown u s.source; done = done }
+      record { from = omega arith; to = omega arith; head = a.grown.same 0 (omega arith) ∙ s.head; bound = a.bound; indexed = a.indexed; sound = λ i c. next_sound i (a.grown.each i c); sources = λ u c. kept found (in_row rows (get_or found next 0)) new a.grown u (s.sources u c); done = done }
     where
       done : (k : ℕ) → 0 < k → k < next + 1 → (i : ℕ) → RowLeads rows i (get_or new k 0) → Contains new i
       done k l m i lead = by (cases_lt k next)
@@ -180,33 +200,11 @@ module _ (rows : List (List ℕ)) (h u next : ℕ) (found slots : List ℕ) (s :
               let e : k ≡ next = omega arith in
               a.grown.every i (subst (λ (z : ℕ). RowLeads rows i z) (same (omega arith) ∙ ap (λ z. get_or found z 0) e) lead)
 
-  pub search_full : (new slots' : List ℕ) → HasNoRoom found (in_row rows (get_or found next 0)) new slots' → HasOver 256 (InPlaces rows h u)
-  search_full new slots' a =
-      let F = a.full in
-      let n = F.count in
-      let m = length_push new F.extra in
-      record { members = new ++ F.extra ∷ []; apart = apart; bound = omega arith; each = λ x c. by x (Contains-push_cases new F.extra x c) }
-    where
-      by : (x : ℕ) → Contains new x ⊎ (a.full.extra ≡ x) → InPlaces rows h u x
-      by x (inl c) = next_sound x (a.full.each x c)
-      by x (inr e) = next_sound x (inr (subst (Contains (in_row rows (get_or found next 0))) e a.full.among))
+  pub search_full : (new slots' : List ℕ) → HasNoRoom found (in_row rows (get_or found next 0)) new slots' → HasOver 256 (InPlaces rows h us)
+  search_full new slots' a = over_full (InPlaces rows h us) found (in_row rows (get_or found next 0)) new slots' a next_sound
 
-      apart : AreDifferent (new ++ a.full.extra ∷ [])
-      apart i j lt lj e = at (cases_lt j (length new))
-        where
-          left : (k : ℕ) → k < length new → get_or (new ++ a.full.extra ∷ []) k 0 ≡ get_or new k 0
-          left k q = get_or_append_left new (a.full.extra ∷ []) 0 k q
-
-          at : (j < length new) ⊎ (length new ≤ j) → ⊥
-          at (inl q) = apart_from_indexed new slots' a.indexed i j lt q (sym (left i (omega arith)) ∙ e ∙ left j q)
-          at (inr q) =
-              let m = length_push new a.full.extra in
-              let last : length new ≡ j = omega arith in
-              let p : i < length new = omega arith in
-              a.full.absent (subst (Contains new) (sym (left i p) ∙ e ∙ get_or_push new a.full.extra 0 j last) (Contains-get_or new i 0 p))
-
-pub search_done : (rows : List (List ℕ)) (h u next : ℕ) (found slots : List ℕ) → Searching rows h u next found slots → length found ≤ next → ArePlaces (InPlaces rows h u) found
-search_done rows h u next found slots s end = record { bound = s.bound; each = s.sound; every = every }
+pub search_done : (rows : List (List ℕ)) (h : ℕ) (us : List ℕ) (next : ℕ) (found slots : List ℕ) → Searching rows h us next found slots → length found ≤ next → ArePlaces (InPlaces rows h us) found
+search_done rows h us next found slots s end = record { bound = s.bound; each = s.sound; every = every }
   where
     head : Contains found h
     head = let f = s.from in let t = s.to in subst (Contains found) s.head (Contains-get_or found 0 0 (omega arith))
@@ -223,6 +221,6 @@ search_done rows h u next found slots s end = record { bound = s.bound; each = s
             let l = c.1 in
             s.done c.0 (omega arith) (omega arith) x (subst (λ (z : ℕ). RowLeads rows x z) (sym value) lead)
 
-    every : (i : ℕ) → InPlaces rows h u i → Contains found i
+    every : (i : ℕ) → InPlaces rows h us i → Contains found i
     every i (inl e) = subst (Contains found) (sym e) head
-    every i (inr r) = backward (RowLeads rows) (λ j. j ≢ h) (Contains found) u s.source prior i r
+    every i (inr r) = backward (RowLeads rows) (λ j. j ≢ h) (Contains found) r.source (s.sources r.source r.among) prior i r.way

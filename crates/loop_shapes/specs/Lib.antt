@@ -14,6 +14,10 @@ pub mod Outside
 pub mod Entry
 pub mod Lines
 pub mod Numbers
-pub mod Covering
 pub mod Below
 pub mod Laws
+pub mod Around
+pub mod Open
+pub mod Marks
+pub mod Nested
+pub mod StartFlags

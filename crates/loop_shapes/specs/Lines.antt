@@ -2,7 +2,7 @@
 use Rattle.std.specs.Prelude.{ℕ, ◌≡◌, ◌<◌, Bool, MatchBool, List, length}
 use Rattle.std.specs.List.{Contains}
 use Rattle.loop_data.specs.declared.graph.Graph.{Graph}
-use Rattle.loop_data.specs.Bodies.{InPart}
+use Rattle.loop_data.specs.Bodies.{InPart, InBody}
 use Rattle.loop_shapes.specs.Places.{count_of, at, in_row}
 use Rattle.loop_data.specs.Sets.{HasAtMost}
 
@@ -25,3 +25,9 @@ pub record IsLargeAmong (G : Graph) (header : ℕ) (row : List ℕ) : Type 0 whe
 -- whether there is one
 abbrev pub HasLarge : Bool → Graph → ℕ → List ℕ → Type 0
 HasLarge b G header row = MatchBool b (IsLargeAmong G header row) ((i : ℕ) → Contains row i → HasAtMost 256 (InPart G (at G header) (at G i)))
+
+-- a loop has both words
+pub record AreShared (G : Graph) (x y : ℕ) : Type 0 where
+  pub header : ℕ
+  pub first : InBody G header x
+  pub second : InBody G header y

@@ -6,8 +6,9 @@ use Rattle.loop_shapes.specs.declared.net.Net.{Net}
 use Rattle.loop_data.specs.Paths.{addresses, IsInOrder}
 use Rattle.loop_shapes.specs.Places.{HasSources, AreFlags, count_of, at, in_row}
 use Rattle.loop_shapes.specs.Rows.{rows}
-use Rattle.loop_data.specs.Bodies.{InPart, IsClosed}
+use Rattle.loop_data.specs.Bodies.{InPart, IsClosed, InBody}
 use Rattle.loop_data.specs.Sets.{HasAtMost}
+use Rattle.loop_data.specs.Starts.{AreFromStarts}
 
 -- the graph of the net
 abbrev pub graph_of : Net → Graph
@@ -19,12 +20,22 @@ pub record IsNet (n : Net) : Type 0 where
   pub addresses_are : n.at.items ≡ addresses (graph_of n)
   pub sources : HasSources (graph_of n) (count_of (graph_of n)) (rows n.before.items)
   pub starts : AreFlags (graph_of n) (Contains (graph_of n).starts) n.starts.items
+  pub from_starts : AreFromStarts (graph_of n)
 
 -- the word at one of these places
 pub record IsAmong (G : Graph) (places : List ℕ) (x : ℕ) : Type 0 where
   pub place : ℕ
   pub among : Contains places place
   pub is : at G place ≡ x
+
+-- the places of the words of a set
+pub record AreAt (G : Graph) (P : ℕ → Type 0) (found : List ℕ) : Type 0 where
+  pub each : (i : ℕ) → Contains found i → (i < count_of G) × P (at G i)
+  pub every : (x : ℕ) → P x → IsAmong G found x
+
+-- the places of the words of a loop's body, at most 256, or that there are more
+abbrev pub HasBody : Bool → Graph → ℕ → List ℕ → Type 0
+HasBody small G h found = MatchBool small ((length found ≤ 256) × AreAt G (InBody G h) found) (¬ HasAtMost 256 (InBody G h))
 
 -- the places of the words that the edge from one place to another closes into a loop
 pub record IsPart (G : Graph) (header source : ℕ) (found : List ℕ) : Type 0 where

@@ -1,7 +1,10 @@
--- A program with its closed edges.
+-- A program with its closed edges and the loops round its words.
 use Rattle.loop_data.specs.declared.graph.Graph.{Graph}
 use Rattle.loop_shapes.specs.declared.program.Program.{Program}
 use Rattle.loop_shapes.specs.Net.{IsNet, HasClosed, graph_of}
+use Rattle.loop_shapes.specs.Around.{AreAround}
+use Rattle.loop_shapes.specs.Numbers.{AreNodes}
+use Rattle.loop_shapes.specs.Open.{AreOpen}
 use Rattle.loop_shapes.specs.Rows.{rows}
 
 -- the graph of the program
@@ -12,3 +15,6 @@ program_graph p = graph_of p.net
 pub record IsProgram (p : Program) : Type 0 where
   pub net : IsNet p.net
   pub closed : HasClosed (program_graph p) (rows p.closed.items)
+  pub around : AreAround (program_graph p) p.around
+  pub next : AreNodes (program_graph p) p.next.items
+  pub open_edges : AreOpen (program_graph p) p.open_next.items

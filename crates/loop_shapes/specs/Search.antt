@@ -48,9 +48,15 @@ AreWithin rows = (j i : ℕ) → Contains (in_row rows j) i → i < length rows
 abbrev pub RowLeads : List (List ℕ) → ℕ → ℕ → Type 0
 RowLeads rows i j = Contains (in_row rows j) i
 
--- the places of the words that an edge from u to h closes into a loop
-abbrev pub InPlaces : List (List ℕ) → ℕ → ℕ → ℕ → Type 0
-InPlaces rows h u i = (i ≡ h) ⊎ Reaches (RowLeads rows) (λ j. j ≢ h) i u
+-- from i one of some places is reached without passing h
+pub record ReachesOne (rows : List (List ℕ)) (h : ℕ) (us : List ℕ) (i : ℕ) : Type 0 where
+  pub source : ℕ
+  pub among : Contains us source
+  pub way : Reaches (RowLeads rows) (λ j. j ≢ h) i source
+
+-- the places of the words that edges from us to h close into a loop
+abbrev pub InPlaces : List (List ℕ) → ℕ → List ℕ → ℕ → Type 0
+InPlaces rows h us i = (i ≡ h) ⊎ ReachesOne rows h us i
 
 -- exactly those places, each once
 pub record ArePlaces (P : ℕ → Type 0) (found : List ℕ) : Type 0 where
@@ -59,5 +65,5 @@ pub record ArePlaces (P : ℕ → Type 0) (found : List ℕ) : Type 0 where
   pub every : (i : ℕ) → P i → Contains found i
 
 -- what a search finds
-abbrev pub HasSearched : Bool → List (List ℕ) → ℕ → ℕ → List ℕ → Type 0
-HasSearched small rows h u found = MatchBool small (ArePlaces (InPlaces rows h u) found) (HasOver 256 (InPlaces rows h u))
+abbrev pub HasSearched : Bool → List (List ℕ) → ℕ → List ℕ → List ℕ → Type 0
+HasSearched small rows h us found = MatchBool small (ArePlaces (InPlaces rows h us) found) (HasOver 256 (InPlaces rows h us))

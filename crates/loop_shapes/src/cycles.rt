@@ -49,7 +49,26 @@ fn prune(program: &Program, left: &mut Vec<u64>)
     }
 }
 
-// Takes out addresses until such an edge leads on from each that is left.
+// Takes out addresses from which no such edge leads on, from the first to the last.
+fn prune_up(program: &Program, left: &mut Vec<u64>)
+    requires { IsProgram program.now }
+    ensures pruned { (body : List ℕ) → IsPruned (program_graph program.now) body left.old.items
+        → IsPruned (program_graph program.now) body left.new.items }
+    ensures fewer { length left.new.items ≤ length left.old.items }
+{
+    let mut i = 0;
+    while i < left.len() {
+        let x = left[i];
+        if leads_on(program, left, x) {
+            i += 1;
+        } else {
+            left.remove(i);
+        }
+    }
+}
+
+// Takes out addresses until such an edge leads on from each that is left: in one direction and then the
+// other, since words that run on are mostly laid out one way.
 fn prune_all(program: &Program, left: &mut Vec<u64>)
     requires { IsProgram program.now }
     ensures pruned { (body : List ℕ) → IsPruned (program_graph program.now) body left.old.items
@@ -58,6 +77,7 @@ fn prune_all(program: &Program, left: &mut Vec<u64>)
 {
     loop {
         let before = left.len();
+        prune_up(program, left);
         prune(program, left);
         if left.len() == before {
             return;

@@ -10,7 +10,7 @@ ghost use Rattle.loop_data.specs.Shape.{IsOneBack, IsOneExit, IsSide, IsInner};
 
 use crate::edges::{edges, only_edge, only_place};
 use crate::net::{Net, address_of, find};
-use crate::program::{Program, body_at, has, is_among, sources_of};
+use crate::program::{Program, has, sources_of};
 use crate::reach::reached_within;
 use crate::sets::minus;
 use std::alloc::{AllocError, Global};
@@ -52,27 +52,19 @@ pub fn stays(alloc: Global, net: &Net, body: &[u64], exit: u64) -> Result<bool, 
     Ok(!all.is_empty())
 }
 
-/// Whether an address lies in none of these loops.
-pub fn is_outermost(
-    alloc: Global,
-    program: &Program,
-    slots: &mut [usize],
-    found: &mut Vec<usize>,
-    inner: &[u64],
-    exit: u64,
-) -> Result<bool, AllocError>
+/// Whether the word at an address lies in no inner loop of a loop that holds it.
+pub fn is_outermost(program: &Program, header: u64, exit: u64) -> bool
     requires program { IsProgram program.now }
-    requires count { length slots.old ≡ count_of (program_graph program.now) }
-    ensures { IfOk result (λ b. IsTrue b
-        ↔ ((k : ℕ) → Contains inner.now k → ¬ InBody (program_graph program.now) k exit)) }
+    requires inside { InBody (program_graph program.now) header exit }
+    ensures { IsTrue result ↔ ((k : ℕ) → IsInner (program_graph program.now) header k → ¬ InBody (program_graph program.now) k exit) }
 {
-    for k in inner {
-        let body = body_at(alloc, program, slots, found, *k)?;
-        if is_among(body.as_slice(), exit) {
-            return Ok(false);
-        }
-    }
-    Ok(true)
+    let Some(place) = find(&program.net, exit) else {
+        unreachable!()
+    };
+    let Some(inner) = program.around.innermost[place] else {
+        unreachable!()
+    };
+    address_of(&program.net, inner) == header
 }
 
 /// Whether a word lies on every way from the header of a loop to its back edge.

@@ -2,15 +2,19 @@ ghost use Rattle.std.specs.Prelude.{◌≡◌, ◌<◌, ℕ, IfOk, length, [], S
 ghost use Rattle.std.specs.List.{Contains};
 ghost use Rattle.loop_data.specs.Bodies.{IsHeader, InBody};
 ghost use Rattle.loop_data.specs.Loops.{IsLevel, AreLevels, IsSoundNest, IsLoop};
-ghost use Rattle.loop_shapes.specs.Places.{AreFlags, count_of};
+ghost use Rattle.loop_shapes.specs.Marks.{AreMarks};
+ghost use Rattle.loop_shapes.specs.Places.{at, count_of};
 ghost use Rattle.loop_shapes.specs.Program.{IsProgram, program_graph};
 ghost use Rattle.loop_data.specs.Sets.{IsListOf};
-ghost use Rattle.loop_data.specs.Shape.{InNest, IsShaped};
+ghost use Rattle.loop_data.specs.Shape.{InNest};
 
-use crate::early::body_verdict;
-use crate::nest::{nest_verdict, round_of};
-use crate::program::{Program, body_at};
-use crate::sets::{minus, nest_of};
+use crate::body::in_order;
+use crate::early::early_verdict;
+use crate::marks::Marks;
+use crate::nest::{headers_of, is_small_nest, round_of};
+use crate::net::address_of;
+use crate::program::{Program, body_at, find_body};
+use crate::sets::minus;
 use crate::shape::own_shape;
 use loop_data::{Addresses, Level, Levels, LoopShape, Verdict};
 use std::alloc::{AllocError, Global};
@@ -33,7 +37,7 @@ fn level(
         → IsLevel (program_graph program.now) h l) }
 {
     let body = body_at(alloc, program, slots, found, x)?;
-    let Some(shape) = own_shape(alloc, program, slots, found, body.as_slice(), x)? else {
+    let Some(shape) = own_shape(alloc, program, body.as_slice(), x)? else {
         unreachable!()
     };
     let round = round_of(alloc, program, slots, found, nest, x)?;
@@ -85,37 +89,36 @@ pub fn judged(alloc: Global, header: u64, verdict: Verdict) -> LoopShape
     }
 }
 
-/// The loop at a header.
+/// The loop at the word at a place.
 pub fn loop_at(
     alloc: Global,
     program: &Program,
-    shaped: &[bool],
+    marks: &Marks,
     slots: &mut [usize],
     found: &mut Vec<usize>,
-    header: u64,
+    place: usize,
 ) -> Result<LoopShape, AllocError>
     requires program { IsProgram program.now }
     requires count { length slots.old ≡ count_of (program_graph program.now) }
-    requires flags { AreFlags (program_graph program.now) (IsShaped (program_graph program.now)) shaped.now }
-    requires header { IsHeader (program_graph program.now) header }
-    ensures header { IfOk result (λ s. s.header ≡ header) }
+    requires marks { AreMarks (program_graph program.now) marks.now }
+    requires within { place < count_of (program_graph program.now) }
+    requires header { IsHeader (program_graph program.now) (at (program_graph program.now) place) }
+    ensures header { IfOk result (λ s. s.header ≡ at (program_graph program.now) place) }
     ensures is { IfOk result (IsLoop (program_graph program.now)) }
 {
-    let body = body_at(alloc, program, slots, found, header)?;
-    if let Some(verdict) = body_verdict(&program.net, body.as_slice(), header) {
+    let header = address_of(&program.net, place);
+    if !find_body(program, slots, found, place)? {
+        return Ok(judged(alloc, header, Verdict::Limit { at: header }));
+    }
+    if let Some(verdict) = early_verdict(&program.net, marks, found, header) {
         return Ok(judged(alloc, header, verdict));
     }
-    let nest = nest_of(alloc, program, body.as_slice())?;
-    if let Some(verdict) = nest_verdict(
-        alloc,
-        program,
-        shaped,
-        slots,
-        found,
-        nest.as_slice(),
-        header,
-    )? {
-        return Ok(judged(alloc, header, verdict));
+    let Some(headers) = headers_of(alloc, program, slots, found)? else {
+        return Ok(judged(alloc, header, Verdict::Limit { at: header }));
+    };
+    let nest = in_order(headers);
+    if !is_small_nest(alloc, program, slots, found, nest.as_slice())? {
+        return Ok(judged(alloc, header, Verdict::Limit { at: header }));
     }
     let levels = levels_of(alloc, program, slots, found, nest.as_slice(), header)?;
     Ok(LoopShape {

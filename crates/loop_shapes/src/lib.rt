@@ -7,6 +7,7 @@
 //! `specs/` has what holds during the searches.
 #![tactic(auto)]
 
+mod around;
 mod body;
 mod closed;
 mod cycles;
@@ -20,9 +21,11 @@ mod levels;
 mod line;
 mod listed;
 mod listing;
+mod marks;
 mod nest;
 mod net;
 mod numbers;
+mod open;
 mod places;
 mod program;
 mod reach;

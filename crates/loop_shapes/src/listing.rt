@@ -1,23 +1,25 @@
 ghost use Rattle.std.specs.Prelude.{◌≡◌, ◌<◌, ◌+◌, ◌^◌, ℕ, IfOk, OnOk, length};
 ghost use Rattle.loop_shapes.specs.Below.{HasShapeAt, AreLoopsBelow};
 ghost use Rattle.loop_shapes.specs.Lines.{AreRowsOf};
+ghost use Rattle.loop_shapes.specs.Marks.{AreMarks};
 ghost use Rattle.loop_data.specs.Listed.{IsListed};
 ghost use Rattle.loop_data.specs.Loops.{AreLoops};
 ghost use Rattle.loop_shapes.specs.Net.{IsNet, graph_of};
 ghost use Rattle.loop_data.specs.Paths.{IsInOrder};
-ghost use Rattle.loop_shapes.specs.Places.{AreFlags, at, count_of};
+ghost use Rattle.loop_shapes.specs.Places.{at, count_of};
 ghost use Rattle.loop_shapes.specs.Program.{IsProgram, program_graph};
 ghost use Rattle.loop_shapes.specs.Rows.{rows};
-ghost use Rattle.loop_data.specs.Shape.{IsShaped};
+ghost use Rattle.loop_data.specs.Starts.{AreFromStarts};
 
 use crate::levels::{judged, loop_at};
 use crate::line::line_of;
 use crate::listed::listed_rows;
+use crate::marks::{Marks, marks_of};
 use crate::nest::shape_flags;
 use crate::net::{Net, address_of, net_of};
 use crate::numbers::numbers_of;
 use crate::places::row_at;
-use crate::program::{Program, is_header, program_of};
+use crate::program::{Program, is_header_at, program_of};
 use loop_data::{Graph, LoopShape};
 use std::alloc::{AllocError, Global};
 
@@ -25,24 +27,24 @@ use std::alloc::{AllocError, Global};
 fn shape_at(
     alloc: Global,
     program: &Program,
-    shaped: &[bool],
+    marks: &Marks,
     listed: &[Vec<usize>],
     slots: &mut [usize],
     found: &mut Vec<usize>,
     place: usize,
 ) -> Result<Option<LoopShape>, AllocError>
     requires program { IsProgram program.now }
-    requires flags { AreFlags (program_graph program.now) (IsShaped (program_graph program.now)) shaped.now }
+    requires marks { AreMarks (program_graph program.now) marks.now }
     requires listed { AreRowsOf (program_graph program.now) (IsListed (program_graph program.now)) (rows listed.now) }
     requires count { length slots.old ≡ count_of (program_graph program.now) }
     requires within { place < count_of (program_graph program.now) }
     ensures { IfOk result (HasShapeAt (program_graph program.now) (at (program_graph program.now) place)) }
 {
-    let x = address_of(&program.net, place);
-    if is_header(program, x) {
-        let shape = loop_at(alloc, program, shaped, slots, found, x)?;
+    if is_header_at(program, place) {
+        let shape = loop_at(alloc, program, marks, slots, found, place)?;
         return Ok(Some(shape));
     }
+    let x = address_of(&program.net, place);
     match line_of(
         alloc,
         &program.net,
@@ -60,7 +62,7 @@ fn shape_at(
 fn add_shape(
     alloc: Global,
     program: &Program,
-    shaped: &[bool],
+    marks: &Marks,
     listed: &[Vec<usize>],
     slots: &mut [usize],
     found: &mut Vec<usize>,
@@ -68,14 +70,14 @@ fn add_shape(
     all: &mut Vec<LoopShape>,
 ) -> Result<(), AllocError>
     requires program { IsProgram program.now }
-    requires flags { AreFlags (program_graph program.now) (IsShaped (program_graph program.now)) shaped.now }
+    requires marks { AreMarks (program_graph program.now) marks.now }
     requires listed { AreRowsOf (program_graph program.now) (IsListed (program_graph program.now)) (rows listed.now) }
     requires count { length slots.old ≡ count_of (program_graph program.now) }
     requires within { place < count_of (program_graph program.now) }
     requires below { AreLoopsBelow (program_graph program.now) place all.old.items }
     ensures { OnOk result (AreLoopsBelow (program_graph program.now) (place + 1) all.new.items) }
 {
-    match shape_at(alloc, program, shaped, listed, slots, found, place)? {
+    match shape_at(alloc, program, marks, listed, slots, found, place)? {
         Some(shape) => {
             all.push(shape)?;
             Ok(())
@@ -98,13 +100,14 @@ fn shapes_of(
 {
     let numbers = numbers_of(alloc, &program.net)?;
     let shaped = shape_flags(alloc, program, slots, found)?;
-    let listed = listed_rows(alloc, program, numbers.as_slice(), slots, found)?;
+    let marks = marks_of(alloc, program, shaped.as_slice(), slots, found)?;
+    let listed = listed_rows(alloc, program, numbers.as_slice())?;
     let mut all = Vec::new(alloc);
     for place in 0..program.net.at.len() {
         add_shape(
             alloc,
             program,
-            shaped.as_slice(),
+            &marks,
             listed.as_slice(),
             slots,
             found,
@@ -143,6 +146,7 @@ fn loops_of(alloc: Global, net: Net, slots: &mut [usize]) -> Result<Vec<LoopShap
 pub fn loops(alloc: Global, graph: &Graph) -> Result<Vec<LoopShape>, AllocError>
     requires ordered { IsInOrder graph.now }
     requires few { count_of graph.now < 2 ^ 32 }
+    requires from_starts { AreFromStarts graph.now }
     ensures { IfOk result (λ v. AreLoops graph.now v.items) }
 {
     let net = net_of(alloc, graph)?;

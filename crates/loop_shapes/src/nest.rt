@@ -1,20 +1,20 @@
 ghost use Rattle.std.specs.Prelude.{◌≡◌, ◌≢◌, ◌↔◌, ◌<◌, ◌≤◌, ℕ, IfOk, OnOk, MatchOption, IsTrue, length};
 ghost use Rattle.std.specs.List.{Contains};
 ghost use Rattle.loop_data.specs.Bodies.{InBody};
-ghost use Rattle.loop_data.specs.Early.{IsMisshapen, IsRound, IsSmallNest, IsPlain, IsEarly};
-ghost use Rattle.loop_shapes.specs.Gains.{Gained};
-ghost use Rattle.loop_shapes.specs.Net.{IsNet, graph_of};
-ghost use Rattle.loop_shapes.specs.Places.{AreFlags, count_of};
+ghost use Rattle.loop_data.specs.Early.{IsRound, IsSmallNest};
+ghost use Rattle.loop_shapes.specs.Gains.{Gained, HasAll};
+ghost use Rattle.loop_shapes.specs.Net.{AreAt};
+ghost use Rattle.loop_shapes.specs.Nested.{HasTriedHeader};
+ghost use Rattle.loop_shapes.specs.Places.{AreFlags, at, count_of};
 ghost use Rattle.loop_shapes.specs.Program.{IsProgram, program_graph};
-ghost use Rattle.loop_data.specs.Sets.{IsListOf, IsLeast};
-ghost use Rattle.loop_data.specs.Shape.{IsShaped, HasShape, InNest};
+ghost use Rattle.loop_shapes.specs.Search.{IsIndexed};
+ghost use Rattle.loop_data.specs.Sets.{IsListOf, HasAtMost};
+ghost use Rattle.loop_data.specs.Shape.{IsShaped, InNest};
 
 use crate::body::in_order;
-use crate::net::{Net, address_of, find};
-use crate::program::{Program, body_at, is_among};
-use crate::sets::nest_of;
+use crate::net::address_of;
+use crate::program::{Program, body_at, is_among, is_header_at};
 use crate::shape::own_shape;
-use loop_data::Verdict;
 use std::alloc::{AllocError, Global};
 
 // Whether a loop has the shape, whatever its inner loops have.
@@ -30,7 +30,7 @@ fn is_shaped(
     ensures { IfOk result (λ b. IsTrue b ↔ IsShaped (program_graph program.now) x) }
 {
     let body = body_at(alloc, program, slots, found, x)?;
-    match own_shape(alloc, program, slots, found, body.as_slice(), x)? {
+    match own_shape(alloc, program, body.as_slice(), x)? {
         Some(_) => Ok(true),
         None => Ok(false),
     }
@@ -55,76 +55,40 @@ pub fn shape_flags(
     Ok(all)
 }
 
-// Whether a loop has the shape, whatever its inner loops have, by the flags.
-fn is_flagged(net: &Net, shaped: &[bool], x: u64) -> bool
-    requires net { IsNet net.now }
-    requires flags { AreFlags (graph_of net.now) (IsShaped (graph_of net.now)) shaped.now }
-    ensures { IsTrue result ↔ IsShaped (graph_of net.now) x }
+// Puts the address at a place to others, where a loop stands there.
+fn add_header(program: &Program, place: usize, all: &mut Vec<u64>) -> Result<(), AllocError>
+    requires program { IsProgram program.now }
+    requires within { place < count_of (program_graph program.now) }
+    ensures { OnOk result (HasTriedHeader (program_graph program.now) (at (program_graph program.now) place) all.old.items all.new.items) }
 {
-    match find(net, x) {
-        Some(place) => shaped[place],
-        None => false,
+    if !is_header_at(program, place) {
+        return Ok(());
     }
+    all.push(address_of(&program.net, place))?;
+    Ok(())
 }
 
-// Whether each of these loops has the shape, whatever their inner loops have.
-fn are_flagged(net: &Net, shaped: &[bool], xs: &[u64]) -> bool
-    requires net { IsNet net.now }
-    requires flags { AreFlags (graph_of net.now) (IsShaped (graph_of net.now)) shaped.now }
-    ensures { IsTrue result ↔ ((k : ℕ) → Contains xs.now k → IsShaped (graph_of net.now) k) }
-{
-    for x in xs {
-        if !is_flagged(net, shaped, *x) {
-            return false;
-        }
-    }
-    true
-}
-
-// Whether a loop and its inner loops have the shape.
-fn has_shape(
+/// The headers of the loops of a nest, from the places of its root's words, unless they are more than 4.
+pub fn headers_of(
     alloc: Global,
     program: &Program,
-    shaped: &[bool],
-    slots: &mut [usize],
-    found: &mut Vec<usize>,
-    x: u64,
-) -> Result<bool, AllocError>
+    slots: &[usize],
+    found: &[usize],
+) -> Result<Option<Vec<u64>>, AllocError>
     requires program { IsProgram program.now }
-    requires count { length slots.old ≡ count_of (program_graph program.now) }
-    requires flags { AreFlags (program_graph program.now) (IsShaped (program_graph program.now)) shaped.now }
-    ensures { IfOk result (λ b. IsTrue b ↔ HasShape (program_graph program.now) x) }
+    requires each { (i : ℕ) → Contains found.now i → i < count_of (program_graph program.now) }
+    requires indexed { IsIndexed found.now slots.now }
+    ensures { IfOk result (λ o. (h : ℕ) → AreAt (program_graph program.now) (InBody (program_graph program.now) h) found.now
+        → MatchOption o (¬ HasAtMost 4 (InNest (program_graph program.now) h)) (λ v. HasAll (InNest (program_graph program.now) h) v.items)) }
 {
-    if !is_flagged(&program.net, shaped, x) {
-        return Ok(false);
-    }
-    let body = body_at(alloc, program, slots, found, x)?;
-    let nest = nest_of(alloc, program, body.as_slice())?;
-    Ok(are_flagged(&program.net, shaped, nest.as_slice()))
-}
-
-// The first loop of a nest that has not the shape.
-fn first_misshapen(
-    alloc: Global,
-    program: &Program,
-    shaped: &[bool],
-    slots: &mut [usize],
-    found: &mut Vec<usize>,
-    nest: &[u64],
-) -> Result<Option<u64>, AllocError>
-    requires program { IsProgram program.now }
-    requires count { length slots.old ≡ count_of (program_graph program.now) }
-    requires flags { AreFlags (program_graph program.now) (IsShaped (program_graph program.now)) shaped.now }
-    ensures { IfOk result (λ o. (h : ℕ) → IsListOf (InNest (program_graph program.now) h) nest.now
-        → MatchOption o ((k : ℕ) → ¬ IsMisshapen (program_graph program.now) h k)
-        (IsLeast (IsMisshapen (program_graph program.now) h))) }
-{
-    for x in nest {
-        if !has_shape(alloc, program, shaped, slots, found, *x)? {
-            return Ok(Some(*x));
+    let mut all = Vec::new(alloc);
+    for place in found {
+        if all.len() > 4 {
+            return Ok(None);
         }
+        add_header(program, *place, &mut all)?;
     }
-    Ok(None)
+    Ok(Some(all))
 }
 
 // Puts a loop to others, where it lies round another.
@@ -173,8 +137,8 @@ pub fn round_of(
     Ok(in_order(all))
 }
 
-// Whether a nest is within the limits.
-fn is_small_nest(
+/// Whether a nest is within the limits.
+pub fn is_small_nest(
     alloc: Global,
     program: &Program,
     slots: &mut [usize],
@@ -195,30 +159,4 @@ fn is_small_nest(
         }
     }
     Ok(true)
-}
-
-/// The verdict on the loops of a nest.
-pub fn nest_verdict(
-    alloc: Global,
-    program: &Program,
-    shaped: &[bool],
-    slots: &mut [usize],
-    found: &mut Vec<usize>,
-    nest: &[u64],
-    header: u64,
-) -> Result<Option<Verdict>, AllocError>
-    requires program { IsProgram program.now }
-    requires count { length slots.old ≡ count_of (program_graph program.now) }
-    requires flags { AreFlags (program_graph program.now) (IsShaped (program_graph program.now)) shaped.now }
-    requires nest { IsListOf (InNest (program_graph program.now) header) nest.now }
-    requires plain { IsPlain (program_graph program.now) header }
-    ensures { IfOk result (IsEarly (program_graph program.now) header) }
-{
-    if let Some(at) = first_misshapen(alloc, program, shaped, slots, found, nest)? {
-        return Ok(Some(Verdict::Shape { at }));
-    }
-    if !is_small_nest(alloc, program, slots, found, nest)? {
-        return Ok(Some(Verdict::Limit { at: header }));
-    }
-    Ok(None)
 }

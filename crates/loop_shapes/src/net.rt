@@ -2,6 +2,7 @@ ghost use Rattle.loop_shapes.specs.Net.{IsNet, graph_of};
 ghost use Rattle.loop_data.specs.Paths.{IsInOrder};
 ghost use Rattle.loop_data.specs.Paths.{IsWord};
 ghost use Rattle.loop_shapes.specs.Places.{at, count_of};
+ghost use Rattle.loop_data.specs.Starts.{AreFromStarts};
 ghost use Rattle.std.specs.Prelude.{◌≡◌, ◌<◌, IfOk, IfSome, IfNone};
 
 use crate::places::{address_list, place_of, sources, start_flags};
@@ -23,7 +24,8 @@ pub struct Net<'a> {
 
 /// The net of a graph.
 pub fn net_of(alloc: Global, graph: &Graph) -> Result<Net<'_>, AllocError>
-    requires { IsInOrder graph.now }
+    requires ordered { IsInOrder graph.now }
+    requires from_starts { AreFromStarts graph.now }
     ensures net { IfOk result IsNet }
     ensures graph { IfOk result (λ n. graph_of n ≡ graph.now) }
 {

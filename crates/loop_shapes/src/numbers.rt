@@ -10,8 +10,8 @@ use crate::net::{Net, find};
 use std::alloc::{AllocError, Global};
 use strong_components::{Successors, components};
 
-// Where the step edges of the word at a place lead.
-fn word_steps<'a>(net: &'a Net, place: usize) -> &'a [u64]
+/// Where the step edges of the word at a place lead.
+pub fn word_steps<'a>(net: &'a Net, place: usize) -> &'a [u64]
     requires net { IsNet net.now }
     requires within { place < count_of (graph_of net.now) }
     ensures steps { (y : ℕ) → Contains result.now y ↔ Leads (graph_of net.now) (at (graph_of net.now) place) y }
@@ -52,8 +52,8 @@ fn successors_at(net: &Net, place: usize) -> Successors
     }
 }
 
-// The graph of the step edges between words.
-fn nodes(alloc: Global, net: &Net) -> Result<Vec<Successors>, AllocError>
+/// The graph of the step edges between words.
+pub fn nodes(alloc: Global, net: &Net) -> Result<Vec<Successors>, AllocError>
     requires net { IsNet net.now }
     requires few { count_of (graph_of net.now) < 2 ^ 32 }
     ensures { IfOk result (λ v. AreNodes (graph_of net.now) v.items) }

@@ -1,26 +1,38 @@
-ghost use Rattle.std.specs.Prelude.{◌≡◌, ◌↔◌, ◌<◌, ℕ, IfOk, IfSome, IfNone, IsTrue, length};
+ghost use Rattle.std.specs.Prelude.{◌≡◌, ◌↔◌, ◌<◌, ◌^◌, ℕ, IfOk, OnOk, IfSome, IfNone, IsTrue, length};
 ghost use Rattle.std.specs.List.{Contains};
 ghost use Rattle.std.specs.List.Sorted.{IsStrictlyIncreasing};
 ghost use Rattle.loop_data.specs.Bodies.{IsClosed, IsHeader, InBody};
-ghost use Rattle.loop_shapes.specs.Net.{IsNet, AreClosed, graph_of};
+ghost use Rattle.loop_shapes.specs.Net.{IsNet, AreClosed, HasBody, graph_of};
 ghost use Rattle.loop_data.specs.Paths.{Leads};
-ghost use Rattle.loop_shapes.specs.Places.{count_of};
+ghost use Rattle.loop_shapes.specs.Places.{at, count_of};
 ghost use Rattle.loop_shapes.specs.Program.{IsProgram, program_graph};
+ghost use Rattle.loop_shapes.specs.Search.{IsIndexed};
 ghost use Rattle.loop_data.specs.Sets.{IsListOf};
 
+use crate::around::{Around, none_around};
 use crate::body::body_of;
 use crate::closed::closed_rows;
 use crate::net::{Net, find};
+use crate::numbers::nodes;
+use crate::open::without;
 use crate::places::{place_of, row_at};
+use crate::search::search;
 use std::alloc::{AllocError, Global};
+use strong_components::Successors;
 
-/// A program with its closed edges.
+/// A program with its closed edges and the loops round its words.
 #[derive(Drop)]
 pub struct Program<'a> {
     /// The graph and what is looked up in it.
     pub net: Net<'a>,
     /// For each word the places of the words from which closed edges lead to it.
     pub closed: Vec<Vec<usize>>,
+    /// The loops round each word.
+    pub around: Around,
+    /// Where the step edges lead.
+    pub next: Vec<Successors>,
+    /// Where those lead that are not closed.
+    pub open_next: Vec<Successors>,
 }
 
 /// The program of a net.
@@ -31,12 +43,22 @@ pub fn program_of<'a>(
     found: &mut Vec<usize>,
 ) -> Result<Program<'a>, AllocError>
     requires net { IsNet net }
+    requires few { count_of (graph_of net) < 2 ^ 32 }
     requires count { length slots.old ≡ count_of (graph_of net) }
     ensures program { IfOk result IsProgram }
     ensures graph { IfOk result (λ p. program_graph p ≡ graph_of net.entry) }
 {
-    let closed = closed_rows(alloc, &net, slots, found)?;
-    Ok(Program { net, closed })
+    let mut around = none_around(alloc, net.at.len())?;
+    let closed = closed_rows(alloc, &net, slots, found, &mut around)?;
+    let next = nodes(alloc, &net)?;
+    let open_next = without(alloc, next.as_slice(), closed.as_slice())?;
+    Ok(Program {
+        net,
+        closed,
+        around,
+        next,
+        open_next,
+    })
 }
 
 /// Whether an address is among others that are in order.
@@ -86,6 +108,38 @@ pub fn is_header(program: &Program, x: u64) -> bool
         Some(place) => !sources_of(program, place).is_empty(),
         None => false,
     }
+}
+
+/// Whether a loop stands at the word at a place.
+pub fn is_header_at(program: &Program, place: usize) -> bool
+    requires program { IsProgram program.now }
+    requires within { place < count_of (program_graph program.now) }
+    ensures { IsTrue result ↔ IsHeader (program_graph program.now) (at (program_graph program.now) place) }
+{
+    !sources_of(program, place).is_empty()
+}
+
+/// Searches for the words of the loop at a place: whether they are at most 256, whose places `found` then has.
+pub fn find_body(
+    program: &Program,
+    slots: &mut [usize],
+    found: &mut Vec<usize>,
+    header: usize,
+) -> Result<bool, AllocError>
+    requires program { IsProgram program.now }
+    requires count { length slots.old ≡ count_of (program_graph program.now) }
+    requires within { header < count_of (program_graph program.now) }
+    requires header { IsHeader (program_graph program.now) (at (program_graph program.now) header) }
+    ensures body { IfOk result (λ small. HasBody small (program_graph program.now) (at (program_graph program.now) header) found.new.items) }
+    ensures indexed { OnOk result (IsIndexed found.new.items slots.new) }
+{
+    search(
+        program.net.before.as_slice(),
+        slots,
+        found,
+        header,
+        sources_of(program, header),
+    )
 }
 
 // Whether a number is among others.

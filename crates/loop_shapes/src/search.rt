@@ -9,8 +9,8 @@ use std::alloc::AllocError;
 // The number of words that a loop may have.
 const LIMIT: usize = 256;
 
-// Whether a number is found.
-fn is_found(found: &[usize], slots: &[usize], x: usize) -> bool
+/// Whether a number is found.
+pub fn is_found(found: &[usize], slots: &[usize], x: usize) -> bool
     requires within { x < length slots.now }
     requires indexed { IsIndexed found.now slots.now }
     ensures { IsTrue result ↔ Contains found.now x }
@@ -19,8 +19,8 @@ fn is_found(found: &[usize], slots: &[usize], x: usize) -> bool
     slot < found.len() && found[slot] == x
 }
 
-// Puts a new number to those that are found.
-fn push_new(found: &mut Vec<usize>, slots: &mut [usize], x: usize) -> Result<(), AllocError>
+/// Puts a new number to those that are found.
+pub fn push_new(found: &mut Vec<usize>, slots: &mut [usize], x: usize) -> Result<(), AllocError>
     requires within { x < length slots.old }
     requires indexed { IsIndexed found.old.items slots.old }
     requires absent { ¬ Contains found.old.items x }
@@ -81,40 +81,42 @@ fn add_row(
     add_all(found, slots, before[at].as_slice())
 }
 
-// Begins a search with the header and the source.
+// Begins a search with the header and the sources; whether there was room.
 fn start(
     slots: &mut [usize],
     found: &mut Vec<usize>,
     header: usize,
-    source: usize,
-) -> Result<(), AllocError>
+    sources: &[usize],
+) -> Result<bool, AllocError>
     requires header { header < length slots.old }
-    requires source { source < length slots.old }
-    ensures { OnOk result (HasRoom (header ∷ []) (source ∷ []) found.new.items slots.new) }
+    requires sources { (x : ℕ) → Contains sources.now x → x < length slots.old }
+    ensures { IfOk result (λ room. HasTried room (header ∷ []) sources.now found.new.items slots.new) }
 {
     found.clear();
     push_new(found, slots, header)?;
-    add_new(found, slots, source)?;
-    Ok(())
+    add_all(found, slots, sources)
 }
 
-/// Searches backwards from `source` and stops at `header`: whether the edge from `source` to `header`
-/// closes at most 256 words into a loop, whose places `found` then has. What `slots` holds matters
-/// neither before nor after.
+/// Searches backwards from `sources` and stops at `header`: whether the edges from the sources to `header`
+/// close at most 256 words into a loop, whose places `found` then has. What `slots` holds before does not
+/// matter.
 pub fn search(
     before: &[Vec<usize>],
     slots: &mut [usize],
     found: &mut Vec<usize>,
     header: usize,
-    source: usize,
+    sources: &[usize],
 ) -> Result<bool, AllocError>
     requires within { AreWithin (rows before.now) }
     requires count { length slots.old ≡ length before.now }
     requires header { header < length before.now }
-    requires source { source < length before.now }
-    ensures { IfOk result (λ small. HasSearched small (rows before.now) header source found.new.items) }
+    requires sources { (x : ℕ) → Contains sources.now x → x < length before.now }
+    ensures places { IfOk result (λ small. HasSearched small (rows before.now) header sources.now found.new.items) }
+    ensures indexed { OnOk result (IsIndexed found.new.items slots.new) }
 {
-    start(slots, found, header, source)?;
+    if !start(slots, found, header, sources)? {
+        return Ok(false);
+    }
     let mut next = 1;
     while next < found.len() {
         let at = found[next];

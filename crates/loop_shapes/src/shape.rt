@@ -11,39 +11,21 @@ use crate::cycles::is_acyclic;
 use crate::exits::{back_of, exit_of, is_outermost, is_passed, stays};
 use crate::kind::{Kind, has_kind};
 use crate::program::Program;
-use crate::sets::{minus, nest_of};
 use std::alloc::{AllocError, Global};
-
-// The headers of the inner loops of a loop, in order.
-fn inner_of(
-    alloc: Global,
-    program: &Program,
-    body: &[u64],
-    header: u64,
-) -> Result<Vec<u64>, AllocError>
-    requires program { IsProgram program.now }
-    requires body { IsListOf (InBody (program_graph program.now) header) body.now }
-    ensures { IfOk result (λ v. IsListOf (IsInner (program_graph program.now) header) v.items) }
-{
-    let nest = nest_of(alloc, program, body)?;
-    minus(alloc, nest.as_slice(), &[header])
-}
 
 // Whether a loop may be left at an address, by the shape.
 fn is_exit_branch(
     alloc: Global,
     program: &Program,
-    slots: &mut [usize],
-    found: &mut Vec<usize>,
     body: &[u64],
     header: u64,
     back: u64,
     exit: u64,
 ) -> Result<bool, AllocError>
     requires program { IsProgram program.now }
-    requires count { length slots.old ≡ count_of (program_graph program.now) }
     requires body { IsListOf (InBody (program_graph program.now) header) body.now }
     requires closed { IsClosed (program_graph program.now) header back }
+    requires inside { InBody (program_graph program.now) header exit }
     ensures { IfOk result (λ b. IsTrue b ↔ IsExitBranch (program_graph program.now) header back exit) }
 {
     if !has_kind(&program.net, exit, Kind::Branches) {
@@ -52,8 +34,7 @@ fn is_exit_branch(
     if !stays(alloc, &program.net, body, exit)? {
         return Ok(false);
     }
-    let inner = inner_of(alloc, program, body, header)?;
-    if !is_outermost(alloc, program, slots, found, inner.as_slice(), exit)? {
+    if !is_outermost(program, header, exit) {
         return Ok(false);
     }
     if !is_passed(alloc, &program.net, body, header, back, exit)? {
@@ -67,13 +48,10 @@ fn is_exit_branch(
 pub fn own_shape(
     alloc: Global,
     program: &Program,
-    slots: &mut [usize],
-    found: &mut Vec<usize>,
     body: &[u64],
     header: u64,
 ) -> Result<Option<(u64, u64)>, AllocError>
     requires program { IsProgram program.now }
-    requires count { length slots.old ≡ count_of (program_graph program.now) }
     requires body { IsListOf (InBody (program_graph program.now) header) body.now }
     ensures { IfOk result (λ o. MatchOption o (¬ IsShaped (program_graph program.now) header)
         (λ s. HasOwnShape (program_graph program.now) header s.0 s.1)) }
@@ -84,7 +62,7 @@ pub fn own_shape(
     let Some(edge) = exit_of(alloc, &program.net, body)? else {
         return Ok(None);
     };
-    if !is_exit_branch(alloc, program, slots, found, body, header, back, edge.0)? {
+    if !is_exit_branch(alloc, program, body, header, back, edge.0)? {
         return Ok(None);
     }
     Ok(Some((back, edge.0)))

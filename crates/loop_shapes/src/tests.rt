@@ -1,8 +1,12 @@
-ghost use Rattle.std.specs.Prelude.{IsTrue, ◌<◌, ◌≤◌};
+ghost use Rattle.std.specs.Prelude.{ℕ, IsTrue, IfOk, ◌≡◌, ◌<◌, ◌≤◌, length, slice_index_or, true, false};
 ghost use Rattle.std.specs.List.Sorted.{IsStrictlyIncreasing};
+ghost use Rattle.loop_data.specs.Paths.{IsInOrder, addresses};
+ghost use Rattle.loop_shapes.specs.Places.{count_of};
+ghost use Rattle.loop_data.specs.Starts.{AreFromStarts};
+ghost use Rattle.loop_shapes.specs.StartFlags.{AreFlagsFromStarts};
 
 use crate::loops;
-use crate::places::address_list;
+use crate::places::{address_list, mark, start_flags};
 use arrayvec::ArrayVec;
 use loop_data::{Addresses, Graph, GraphWords, LoopShape, Verdict, Word};
 use std::alloc::{AllocError, Global};
@@ -78,6 +82,69 @@ fn rises(at: &[u64]) -> bool
     true
 }
 
+// Flags what the word at a place leads to, where it is flagged.
+fn spread(flags: &mut [bool], at: &[u64], graph: &Graph, place: usize)
+    requires ordered { IsInOrder graph.now }
+    requires addresses { at.now ≡ addresses graph.now }
+    requires within { place < count_of graph.now }
+    requires from { AreFlagsFromStarts graph.now flags.old }
+    ensures { AreFlagsFromStarts graph.now flags.new }
+{
+    if !flags[place] {
+        return;
+    }
+    for y in graph.words.as_slice()[place].steps.as_slice() {
+        mark(flags, at, *y);
+    }
+}
+
+// Flags what flagged words lead to.
+fn spread_all(flags: &mut [bool], at: &[u64], graph: &Graph)
+    requires ordered { IsInOrder graph.now }
+    requires addresses { at.now ≡ addresses graph.now }
+    requires from { AreFlagsFromStarts graph.now flags.old }
+    ensures { AreFlagsFromStarts graph.now flags.new }
+{
+    for place in 0..at.len() {
+        spread(flags, at, graph, place);
+    }
+}
+
+// Whether all flags are set.
+fn all_set(flags: &[bool]) -> bool
+    ensures { IsTrue result → (i : ℕ) → i < length flags.now → slice_index_or flags.now i false ≡ true }
+{
+    for flag in flags {
+        if !*flag {
+            return false;
+        }
+    }
+    true
+}
+
+// Flags what is reached from flagged words; whether that is all.
+fn spread_until_set(flags: &mut [bool], at: &[u64], graph: &Graph) -> bool
+    requires ordered { IsInOrder graph.now }
+    requires addresses { at.now ≡ addresses graph.now }
+    requires from { AreFlagsFromStarts graph.now flags.old }
+    ensures { IsTrue result → AreFromStarts graph.now }
+{
+    for _ in 0..at.len() {
+        spread_all(flags, at, graph);
+    }
+    all_set(flags)
+}
+
+// Whether a way leads to each word from a start word.
+fn are_from_starts(alloc: Global, graph: &Graph, at: &[u64]) -> Result<bool, AllocError>
+    requires ordered { IsInOrder graph.now }
+    requires addresses { at.now ≡ addresses graph.now }
+    ensures { IfOk result (λ b. IsTrue b → AreFromStarts graph.now) }
+{
+    let mut flags = start_flags(alloc, graph, at)?;
+    Ok(spread_until_set(&mut flags, at, graph))
+}
+
 // The listed loops of these words.
 fn listed(
     rt: &impl Abort,
@@ -89,6 +156,8 @@ fn listed(
     let at = address_list(alloc, &graph)?;
     assert!(rt; rises(at.as_slice()));
     assert!(rt; at.len() < 10000);
+    let entered = are_from_starts(alloc, &graph, at.as_slice())?;
+    assert!(rt; entered);
     loops(alloc, &graph)
 }
 

@@ -1,10 +1,53 @@
+use Rattle.std.proofs.Common.{◌≡◌, ◌<◌, ◌⊎◌, ℕ, inl, inr, List, [], ◌∷◌, ◌++◌, Some, Option, true, false, refl, sym, subst, ap, ◌∙◌, arith}
+use Rattle.std.specs.List.{Contains}
+use Rattle.std.proofs.lemmas.List.{get_or_past}
+use Rattle.std.proofs.lemmas.Bool.{cases_lt}
+use Rattle.std.proofs.lemmas.List.Elements.{Contains-push_cases}
+use Rattle.loop_shapes.specs.Around.{IsSettled, entry_at, AreAroundSoFar}
 use Rattle.loop_shapes.specs.Net.{graph_of}
+use Rattle.loop_shapes.specs.Places.{count_of}
 use Rattle.loop_shapes.proofs.Answered.{passed, failed}
 use Rattle.loop_shapes.proofs.ClosedRows.{tried_open, tried_closed}
+use Rattle.loop_shapes.proofs.Rounds.{rounds_more, entries_within}
 use Rattle.loop_shapes.proofs.closed.add_closed.Goals as goal
 
-pub returns-then-not-branch : goal.returns-then-not-branch
-returns-then-not-branch c = tried_open (graph_of c.args.net.now) c.args.header c.args.source c.args.row.now.items (failed c.in_ok-is_closed.field-0 c.in_ok-is_closed.ensures c.if-not-branch.true)
+pub returns-then-not-branch-clause-tried : goal.returns-then-not-branch-clause-tried
+returns-then-not-branch-clause-tried c = tried_open (graph_of c.args.net.now) c.args.header c.args.source c.args.row.now.items (failed c.in_ok-is_closed.field-0 c.in_ok-is_closed.ensures.closed c.if-not-branch.true)
 
-pub returns : goal.returns
-returns c = tried_closed (graph_of c.args.net.now) c.args.header c.args.source c.args.row.now.items c.push.new.self.items (passed c.in_ok-is_closed.field-0 c.in_ok-is_closed.ensures c.if-not-branch.false) c.in_ok-push.ensures.items
+pub returns-clause-tried : goal.returns-clause-tried
+returns-clause-tried c = tried_closed (graph_of c.args.net.now) c.args.header c.args.source c.args.row.now.items c.push.new.self.items (passed c.in_ok-is_closed.field-0 c.in_ok-is_closed.ensures.closed c.if-not-branch.false) c.in_ok-push.ensures.items
+
+pub settle-requires-clause-within : goal.settle-requires-clause-within
+settle-requires-clause-within c i m e =
+    let l = entries_within (graph_of c.args.net.now) true c.args.header c.args.row.now.items c.args.around.now.innermost.items c.requires.around.innermost i m e in
+    let n = c.requires.count in
+    omega arith
+
+pub settle-requires-2-clause-within : goal.settle-requires-2-clause-within
+settle-requires-2-clause-within c i m e =
+    let l = entries_within (graph_of c.args.net.now) false c.args.header c.args.row.now.items c.args.around.now.outermost.items c.requires.around.outermost i m e in
+    let n = c.requires.count in
+    omega arith
+
+grown : (old new : List ℕ) (u : ℕ) → new ≡ old ++ u ∷ [] → (v : ℕ) → Contains new v → Contains old v ⊎ (v ≡ u)
+grown old new u e v m = by (Contains-push_cases old u v (subst (λ (xs : List ℕ). Contains xs v) e m))
+  where
+    by : Contains old v ⊎ (u ≡ v) → Contains old v ⊎ (v ≡ u)
+    by (inl c) = inl c
+    by (inr q) = inr (sym q)
+
+pub returns-clause-around : goal.returns-clause-around
+returns-clause-around c =
+    let G = graph_of c.args.net.now in
+    let n = c.requires.net in
+    let h = c.args.header in
+    let u = c.args.source in
+    let row = c.args.row.now.items in
+    let found = c.is_closed.new.found.items in
+    let closed = passed c.in_ok-is_closed.field-0 c.in_ok-is_closed.ensures.closed c.if-not-branch.false in
+    let part = c.in_ok-is_closed.ensures.part c.if-not-branch.false in
+    let more = grown row c.push.new.self.items u c.in_ok-push.ensures.items in
+    record {
+      innermost = rounds_more G n.from_starts n.ordered h u found row c.push.new.self.items c.args.around.now.innermost.items c.settle.new.entries.items c.requires.header closed part more true c.requires.around.innermost (subst (λ (xs : List ℕ). IsSettled true xs xs h c.args.around.now.innermost.items c.settle.new.entries.items) c.deref.ensures.value c.settle.ensures);
+      outermost = rounds_more G n.from_starts n.ordered h u found row c.push.new.self.items c.args.around.now.outermost.items c.settle-2.new.entries.items c.requires.header closed part more false c.requires.around.outermost (subst (λ (xs : List ℕ). IsSettled false xs xs h c.args.around.now.outermost.items c.settle-2.new.entries.items) c.deref-2.ensures.value c.settle-2.ensures);
+    }

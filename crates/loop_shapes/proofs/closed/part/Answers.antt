@@ -1,8 +1,10 @@
-use Rattle.std.proofs.Common.{ℕ, List, sym, subst}
+use Rattle.std.proofs.Common.{ℕ, List, [], ◌∷◌, length, ap, sym, subst, arith}
+use Rattle.std.proofs.lemmas.List.{length-map}
 use Rattle.std.proofs.lemmas.Result.{IfOk-weaker}
 use Rattle.std.specs.declared.vec.Vec.{Vec}
 use Rattle.std.specs.declared.alloc.Global.{Global}
-use Rattle.loop_shapes.specs.Rows.{rows}
+use Rattle.loop_shapes.specs.Rows.{rows, items_of}
+use Rattle.loop_shapes.proofs.Rows.{alone}
 use Rattle.loop_shapes.specs.Search.{AreWithin, HasSearched}
 use Rattle.loop_shapes.specs.Net.{HasPart, graph_of}
 use Rattle.loop_shapes.proofs.Parts.{within, has_part}
@@ -13,9 +15,20 @@ search-requires-clause-within c =
     let n = c.requires.net in
     subst (λ (vs : List (Vec ℕ Global)). AreWithin (rows vs)) (sym c.as_slice.ensures.value) (within (graph_of c.args.net.now) n.ordered (rows c.args.net.now.before.items) n.sources)
 
-pub returns : goal.returns
-returns c =
+pub search-requires-clause-sources : goal.search-requires-clause-sources
+search-requires-clause-sources c x m =
+    let e = alone c.args.source x m in
+    let l = c.requires.source in
+    let n = c.requires.net.sources.count in
+    let k = length-map c.as_slice.result.now items_of in
+    let f = ap (λ (vs : List (Vec ℕ Global)). length (rows vs)) c.as_slice.ensures.value in
+    omega arith
+
+pub returns-clause-part : goal.returns-clause-part
+returns-clause-part c =
     let n = c.requires.net in
     let G = graph_of c.args.net.now in
+    let h = c.args.header in
+    let u = c.args.source in
     let found = c.search.new.found.items in
-    IfOk-weaker c.search.result (λ small. HasSearched small (rows c.as_slice.result.now) c.args.header c.args.source found) (λ small. HasPart small G c.args.header c.args.source found) (λ small h. has_part G n.ordered (rows c.args.net.now.before.items) n.sources c.args.header c.args.source c.requires.header c.requires.source found small (subst (λ (vs : List (Vec ℕ Global)). HasSearched small (rows vs) c.args.header c.args.source found) c.as_slice.ensures.value h)) c.search.ensures
+    IfOk-weaker c.search.result (λ small. HasSearched small (rows c.as_slice.result.now) h (u ∷ []) found) (λ small. HasPart small G h u found) (λ small a. has_part G n.ordered (rows c.args.net.now.before.items) n.sources h u c.requires.header c.requires.source found small (subst (λ (vs : List (Vec ℕ Global)). HasSearched small (rows vs) h (u ∷ []) found) c.as_slice.ensures.value a)) c.search.ensures.places

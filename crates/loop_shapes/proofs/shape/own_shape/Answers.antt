@@ -20,3 +20,6 @@ returns-then-not-branch c = no_shape_branch (program_graph c.args.program.now) c
 
 pub returns : goal.returns
 returns c = shape_by (program_graph c.args.program.now) c.args.header c.in-Some.back c.in-Some-2.edge c.in-Some.ensures.some (at_some (NoExit (program_graph c.args.program.now) c.args.header) (IsOneExit (program_graph c.args.program.now) c.args.header) c.in_ok-edge.field-0 c.in-Some-2.edge c.in-Some-2.is (c.in_ok-edge.ensures c.args.header c.requires.body)) (passed c.in_ok-is_exit_branch.field-0 c.in_ok-is_exit_branch.ensures c.if-not-branch.false)
+
+pub is_exit_branch-requires-clause-inside : goal.is_exit_branch-requires-clause-inside
+is_exit_branch-requires-clause-inside c = (at_some (NoExit (program_graph c.args.program.now) c.args.header) (IsOneExit (program_graph c.args.program.now) c.args.header) c.in_ok-edge.field-0 c.in-Some-2.edge c.in-Some-2.is (c.in_ok-edge.ensures c.args.header c.requires.body)).leaves.inside

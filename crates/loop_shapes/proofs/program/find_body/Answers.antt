@@ -1,0 +1,35 @@
+use Rattle.std.proofs.Common.{ℕ, List, length, ap, sym, subst, arith}
+use Rattle.std.specs.List.{Contains}
+use Rattle.std.proofs.lemmas.List.{length-map}
+use Rattle.std.proofs.lemmas.Result.{IfOk-weaker}
+use Rattle.std.specs.declared.vec.Vec.{Vec}
+use Rattle.std.specs.declared.alloc.Global.{Global}
+use Rattle.loop_shapes.specs.Rows.{rows, items_of}
+use Rattle.loop_shapes.specs.Search.{AreWithin, HasSearched}
+use Rattle.loop_shapes.specs.Net.{HasBody}
+use Rattle.loop_shapes.specs.Places.{at}
+use Rattle.loop_shapes.specs.Program.{program_graph}
+use Rattle.loop_shapes.proofs.Parts.{within, has_body}
+use Rattle.loop_shapes.proofs.program.find_body.Goals as goal
+
+pub search-requires-clause-within : goal.search-requires-clause-within
+search-requires-clause-within c =
+    let n = c.requires.program.net in
+    subst (λ (vs : List (Vec ℕ Global)). AreWithin (rows vs)) (sym c.as_slice.ensures.value) (within (program_graph c.args.program.now) n.ordered (rows c.args.program.now.net.before.items) n.sources)
+
+pub search-requires-clause-sources : goal.search-requires-clause-sources
+search-requires-clause-sources c x m =
+    let l = (c.sources_of.ensures.each x m).0 in
+    let n = c.requires.program.net.sources.count in
+    let k = length-map c.as_slice.result.now items_of in
+    let f = ap (λ (vs : List (Vec ℕ Global)). length (rows vs)) c.as_slice.ensures.value in
+    omega arith
+
+pub returns-clause-body : goal.returns-clause-body
+returns-clause-body c =
+    let n = c.requires.program.net in
+    let G = program_graph c.args.program.now in
+    let h = c.args.header in
+    let us = c.sources_of.result.now in
+    let found = c.search.new.found.items in
+    IfOk-weaker c.search.result (λ small. HasSearched small (rows c.as_slice.result.now) h us found) (λ small. HasBody small G (at G h) found) (λ small a. has_body G n.ordered (rows c.args.program.now.net.before.items) n.sources h us c.requires.within c.sources_of.ensures c.requires.header found small (subst (λ (vs : List (Vec ℕ Global)). HasSearched small (rows vs) h us found) c.as_slice.ensures.value a)) c.search.ensures.places

@@ -1,0 +1,175 @@
+ghost use Rattle.std.specs.Prelude.{◌≡◌, ◌↔◌, ◌<◌, ℕ, IfOk, OnOk, IsTrue, MatchOption, length, if◌then◌else◌, Some, slice_index_or, false};
+ghost use Rattle.std.specs.List.{Contains};
+ghost use Rattle.loop_data.specs.Bodies.{IsHeader};
+ghost use Rattle.loop_shapes.specs.Kinds.{HasKind};
+ghost use Rattle.loop_shapes.specs.Marks.{IsUnsound, IsSet, AreMarks, ArePlacesShaped, lesser_of};
+ghost use Rattle.loop_shapes.specs.Net.{IsNet, graph_of};
+ghost use Rattle.loop_shapes.specs.Places.{AreFlags, at, count_of};
+ghost use Rattle.loop_shapes.specs.Program.{IsProgram, program_graph};
+ghost use Rattle.loop_data.specs.Sets.{IsLeast};
+ghost use Rattle.loop_data.specs.Shape.{IsShaped};
+
+use crate::kind::{Kind, has_kind};
+use crate::net::{Net, address_of};
+use crate::program::{Program, find_body, is_header_at};
+use std::alloc::{AllocError, Global};
+
+/// What is known of each word.
+#[derive(Drop)]
+pub struct Marks {
+    /// Whether it calls.
+    pub calls: Vec<bool>,
+    /// Whether it makes a system call.
+    pub asks: Vec<bool>,
+    /// Whether it jumps to an address that is not known.
+    pub jumps: Vec<bool>,
+    /// Whether it stands for no instruction.
+    pub nothing: Vec<bool>,
+    /// Whether a loop stands there that has not the shape.
+    pub unsound: Vec<bool>,
+}
+
+// Which words do this.
+fn kind_flags(alloc: Global, net: &Net, kind: Kind) -> Result<Vec<bool>, AllocError>
+    requires { IsNet net.now }
+    ensures { IfOk result (λ v. AreFlags (graph_of net.now) (HasKind kind (graph_of net.now)) v.items) }
+{
+    let mut all = Vec::new(alloc);
+    for place in 0..net.at.len() {
+        let x = address_of(net, place);
+        all.push(has_kind(net, x, kind))?;
+    }
+    Ok(all)
+}
+
+// Whether a loop that has not the shape, whatever its inner loops have, stands at a place.
+fn is_unshaped(program: &Program, shaped: &[bool], place: usize) -> bool
+    requires program { IsProgram program.now }
+    requires flags { AreFlags (program_graph program.now) (IsShaped (program_graph program.now)) shaped.now }
+    requires within { place < count_of (program_graph program.now) }
+    ensures { IsTrue result ↔ (IsHeader (program_graph program.now) (at (program_graph program.now) place)
+        × ¬ IsShaped (program_graph program.now) (at (program_graph program.now) place)) }
+{
+    if shaped[place] {
+        return false;
+    }
+    is_header_at(program, place)
+}
+
+// Whether there is such a loop at a place that is found.
+fn has_unshaped(program: &Program, shaped: &[bool], found: &[usize]) -> bool
+    requires program { IsProgram program.now }
+    requires flags { AreFlags (program_graph program.now) (IsShaped (program_graph program.now)) shaped.now }
+    requires each { (i : ℕ) → Contains found.now i → i < count_of (program_graph program.now) }
+    ensures { ArePlacesShaped result (program_graph program.now) found.now }
+{
+    for place in found {
+        if is_unshaped(program, shaped, *place) {
+            return true;
+        }
+    }
+    false
+}
+
+// Whether a loop that has not the shape stands at a place.
+fn is_unsound(
+    program: &Program,
+    shaped: &[bool],
+    slots: &mut [usize],
+    found: &mut Vec<usize>,
+    place: usize,
+) -> Result<bool, AllocError>
+    requires program { IsProgram program.now }
+    requires flags { AreFlags (program_graph program.now) (IsShaped (program_graph program.now)) shaped.now }
+    requires count { length slots.old ≡ count_of (program_graph program.now) }
+    requires within { place < count_of (program_graph program.now) }
+    ensures { IfOk result (λ b. IsTrue b ↔ IsUnsound (program_graph program.now) (at (program_graph program.now) place)) }
+{
+    if !is_header_at(program, place) {
+        return Ok(false);
+    }
+    if !shaped[place] {
+        return Ok(true);
+    }
+    if !find_body(program, slots, found, place)? {
+        return Ok(true);
+    }
+    Ok(has_unshaped(program, shaped, found))
+}
+
+// At which words loops stand that have not the shape.
+fn unsound_flags(
+    alloc: Global,
+    program: &Program,
+    shaped: &[bool],
+    slots: &mut [usize],
+    found: &mut Vec<usize>,
+) -> Result<Vec<bool>, AllocError>
+    requires program { IsProgram program.now }
+    requires flags { AreFlags (program_graph program.now) (IsShaped (program_graph program.now)) shaped.now }
+    requires count { length slots.old ≡ count_of (program_graph program.now) }
+    ensures { IfOk result (λ v. AreFlags (program_graph program.now) (IsUnsound (program_graph program.now)) v.items) }
+{
+    let mut all = Vec::new(alloc);
+    for place in 0..program.net.at.len() {
+        all.push(is_unsound(program, shaped, slots, found, place)?)?;
+    }
+    Ok(all)
+}
+
+/// What is known of each word, from the loops that have the shape, whatever their inner loops have.
+pub fn marks_of(
+    alloc: Global,
+    program: &Program,
+    shaped: &[bool],
+    slots: &mut [usize],
+    found: &mut Vec<usize>,
+) -> Result<Marks, AllocError>
+    requires program { IsProgram program.now }
+    requires flags { AreFlags (program_graph program.now) (IsShaped (program_graph program.now)) shaped.now }
+    requires count { length slots.old ≡ count_of (program_graph program.now) }
+    ensures { IfOk result (AreMarks (program_graph program.now)) }
+{
+    let net = &program.net;
+    Ok(Marks {
+        calls: kind_flags(alloc, net, Kind::Calls)?,
+        asks: kind_flags(alloc, net, Kind::Asks)?,
+        jumps: kind_flags(alloc, net, Kind::JumpsAnywhere)?,
+        nothing: kind_flags(alloc, net, Kind::IsNothing)?,
+        unsound: unsound_flags(alloc, program, shaped, slots, found)?,
+    })
+}
+
+// The lesser of two places, where there are two.
+fn lesser(least: Option<usize>, place: usize) -> usize
+    ensures { result ≡ lesser_of least place }
+{
+    match least {
+        None => place,
+        Some(other) => other.min(place),
+    }
+}
+
+// The least place so far, with one more where it is flagged.
+fn with_place(flags: &[bool], least: Option<usize>, place: usize) -> Option<usize>
+    requires { place < length flags.now }
+    ensures { result ≡ (if slice_index_or flags.now place false then Some (lesser_of least place) else least) }
+{
+    if flags[place] {
+        return Some(lesser(least, place));
+    }
+    least
+}
+
+/// The least place found that is flagged.
+pub fn least_flagged(found: &[usize], flags: &[bool]) -> Option<usize>
+    requires { (i : ℕ) → Contains found.now i → i < length flags.now }
+    ensures { MatchOption result ((i : ℕ) → Contains found.now i → ¬ IsSet flags.now i)
+        (IsLeast (λ i. Contains found.now i × IsSet flags.now i)) }
+{
+    let mut least = None;
+    for place in found {
+        least = with_place(flags, least, *place);
+    }
+    least
+}
