@@ -4,7 +4,7 @@ ghost use Rattle.elf_image.specs.Layout.{IsLoadable};
 use crate::{End, Machine, Ran, run_counted, run_serial, start, step_serial};
 use elf_image::{Bytes, Elf, Segment, Segments};
 use outside_ports::{MemSink, MemSource};
-use rv64_decode::Fault;
+use rv64_decode::{Fault, MemFault, Reg};
 use std::alloc::{AllocError, Global};
 use std::test::Fail;
 
@@ -149,6 +149,108 @@ fn nothing_follows_the_ending(rt: HostRuntime) -> Result<(), Fail> {
     assert_eq!(rt; m.pc, 0x10098);
     assert_eq!(rt; input.rest().len(), 4);
     assert!(rt; out.bytes() == b"hello\n".as_slice());
+    Ok(())
+}
+
+// Four words of code.
+fn code_of(words: [u32; 4]) -> [u8; 16] {
+    let mut code = [0; 16];
+    code[0..4].copy_from_slice(&words[0].to_le_bytes());
+    code[4..8].copy_from_slice(&words[1].to_le_bytes());
+    code[8..12].copy_from_slice(&words[2].to_le_bytes());
+    code[12..16].copy_from_slice(&words[3].to_le_bytes());
+    code
+}
+
+// What x6 holds after four instructions, the first two of which set x5 to 0xFFFFFFFF8182F384: lui x5,
+// 0x8182F and addi x5, x5, 0x384.
+fn x6_after(alloc: Global, third: u32, fourth: u32) -> Result<u64, AllocError> {
+    let mut m = machine(alloc, &code_of([0x8182_F2B7, 0x3842_8293, third, fourth]))?;
+    let mut input = MemSource::new(Vec::new(alloc), 1, Vec::new(alloc));
+    let mut out = MemSink::new(alloc, 0, Vec::new(alloc))?;
+    let _ = run_serial(&mut m, 4, &mut input, &mut out);
+    Ok(m.regs.get(Reg::new(6)))
+}
+
+// Loads from and stores to -64(x2), which is on the stack, in every width, by what the manual says of
+// sign and zero extension.
+#[test]
+fn loads_and_stores_have_their_widths(rt: HostRuntime) -> Result<(), Fail> {
+    let sd = 0xFC51_3023;
+    for (load, want) in [
+        (0xFC01_0303, 0xFFFF_FFFF_FFFF_FF84),
+        (0xFC01_1303, 0xFFFF_FFFF_FFFF_F384),
+        (0xFC01_2303, 0xFFFF_FFFF_8182_F384),
+        (0xFC01_3303, 0xFFFF_FFFF_8182_F384),
+        (0xFC01_4303, 0x84),
+        (0xFC01_5303, 0xF384),
+        (0xFC01_6303, 0x8182_F384),
+    ] {
+        assert_eq!(rt; x6_after(rt.alloc(), sd, load)?, want, "{load:#x}");
+    }
+    let ld = 0xFC01_3303;
+    for (store, want) in [
+        (0xFC51_0023, 0x84),
+        (0xFC51_1023, 0xF384),
+        (0xFC51_2023, 0x8182_F384),
+        (0xFC51_3023, 0xFFFF_FFFF_8182_F384),
+    ] {
+        assert_eq!(rt; x6_after(rt.alloc(), store, ld)?, want, "{store:#x}");
+    }
+    Ok(())
+}
+
+// lui a1, 0x7F700; li a2, 4; li a7, 63; ecall, to a source that gives a byte and then fails: the machine
+// stays at the call, and all else is as it was.
+#[test]
+fn ends_by_the_source(rt: HostRuntime) -> Result<(), Fail> {
+    let code = code_of([0x7F70_05B7, 0x0040_0613, 0x03F0_0893, 0x0000_0073]);
+    let mut m = machine(rt.alloc(), &code)?;
+    let fails = vec![in rt.alloc(); 1]?;
+    let mut input = MemSource::new(b"rest".to_vec(rt.alloc())?, 1, fails);
+    let mut out = MemSink::new(rt.alloc(), 16, Vec::new(rt.alloc()))?;
+    let want = Ran {
+        end: End::ReadFault,
+        steps: 4,
+    };
+    assert_eq!(rt; run_counted(&mut m, 9, &mut input, &mut out), want);
+    assert_eq!(rt; m.pc, 0x10084);
+    assert_eq!(rt; m.regs.get(Reg::new(10)), 0);
+    assert_eq!(rt; m.regs.get(Reg::new(12)), 4);
+    assert_eq!(rt; run_serial(&mut m, 9, &mut input, &mut out), End::ReadFault);
+    assert_eq!(rt; input.rest().len(), 3);
+    assert!(rt; out.bytes().is_empty());
+    Ok(())
+}
+
+// auipc x5, 0; lw x6, 0(x5), in an area that may be executed alone.
+#[test]
+fn code_that_may_not_be_read(rt: HostRuntime) -> Result<(), Fail> {
+    let code = code_of([0x0000_0297, 0x0002_A303, 0, 0]);
+    let mut segments = Vec::new(rt.alloc());
+    segments.push(Segment {
+        index: 0,
+        vaddr: 0x10000,
+        memsz: 16,
+        flags: 1,
+        bytes: Bytes::new(code.to_vec(rt.alloc())?),
+    })?;
+    let elf = Elf {
+        entry: 0x10000,
+        segments: Segments::new(segments),
+    };
+    let mut m = start(rt.alloc(), &elf)?;
+    let mut input = MemSource::new(Vec::new(rt.alloc()), 1, Vec::new(rt.alloc()));
+    let mut out = MemSink::new(rt.alloc(), 0, Vec::new(rt.alloc()))?;
+    let end = End::Faulted {
+        kind: Fault::Load(MemFault::Denied),
+        pc: 0x10004,
+        addr: 0x10000,
+    };
+    assert_eq!(rt;
+        run_counted(&mut m, 9, &mut input, &mut out),
+        Ran { end, steps: 2 }
+    );
     Ok(())
 }
 
