@@ -171,7 +171,7 @@ independent =
     }
 
 -- the branch of turn 19 leaves, and no other before it does
-left : goes_at (has add_loop.body) (run arrays 160).next ≡ false
+pub left : goes_at (has add_loop.body) (run arrays 160).next ≡ false
 unfolding step
 left = refl
 

@@ -1,6 +1,9 @@
 pub mod Visits
 pub mod Tests
+pub mod Short
 pub mod Adding
 pub mod Chain
 pub mod Summing
+pub mod Storing
 pub mod Nested
+pub mod Refused

@@ -54,6 +54,9 @@ turn_rises l s n = go (arrives l s (suc n))
 pub turn_at_arrival : (l : Level) (s : State) (n : ℕ) → arrives l s (suc n) ≡ true → turn l s (suc n) ≡ suc (turn l s n)
 turn_at_arrival l s n e = rw e refl
 
+pub turn_elsewhere : (l : Level) (s : State) (n : ℕ) → arrives l s (suc n) ≡ false → turn l s (suc n) ≡ turn l s n
+turn_elsewhere l s n e = rw e refl
+
 pub turns_rise : (l : Level) (s : State) (m k : ℕ) → turn l s m ≤ turn l s (m + k)
 turns_rise l s m zero = rw add-zero (omega arith)
 turns_rise l s m (suc k) = let a = turns_rise l s m k in let b = turn_rises l s (m + k) in rw add-suc (omega arith)

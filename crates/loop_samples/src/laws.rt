@@ -1,12 +1,16 @@
-ghost use Rattle.loop_data.specs.Independent.{Role, AreTurns, AreApart, HaveRoles, Independent};
+ghost use Rattle.loop_data.specs.Independent.{Role, Private, AreTurns, AreCells, AreApart, HaveRoles, Independent};
 ghost use Rattle.loop_data.specs.Holds.{FormsHold};
 ghost use Rattle.loop_data.specs.Locations.{no_cells, value_of};
+ghost use Rattle.loop_data.specs.declared.shape.Level.{Level};
+ghost use Rattle.loop_data.specs.Runs.{State, run};
 ghost use Rattle.loop_data.specs.Turns.{AtLoop, Stays};
 ghost use Rattle.loop_samples.specs.AddLoop.{add_loop, areas, arrays, add_roles, AddTurns, AddReads, AddWrites};
 ghost use Rattle.loop_samples.specs.ChainLoop.{chain_loop, numbers, chain_roles};
 ghost use Rattle.loop_samples.specs.NestLoop.{outer, nest, two_cells, counting, nest_roles, nest_forms, NestPasses, NestPassed};
 ghost use Rattle.loop_samples.specs.SumLoop.{sum_loop, powers};
-ghost use Rattle.std.specs.Prelude.{ℕ, ◌≡◌, ◌-◌, ◌^◌};
+ghost use Rattle.loop_samples.specs.StoreLoop.{store_loop, storing, store_roles};
+ghost use Rattle.loop_samples.specs.Refused.{cells_with, cells_without_store, unwritten_roles, fast_forms, other_areas};
+ghost use Rattle.std.specs.Prelude.{ℕ, true, false, ◌≡◌, ◌-◌, ◌^◌};
 
 /// The loop that adds arrays of 20 numbers: its turns, the bytes that they read and write, and how many
 /// of them stay.
@@ -52,4 +56,41 @@ pub fn nest_forms_hold()
 /// Those turns are independent, the cell that each of them stores notwithstanding.
 pub fn nest_is_independent()
     ensures { Independent outer two_cells nest_roles counting 3 }
+{}
+
+/// A run stays at a loop for one number of turns alone.
+pub fn stays_for_one_number()
+    ensures { (l : Level) (s : State) (a b : ℕ) → Stays l s a → Stays l s b → a ≡ b }
+{}
+
+/// The turn that leaves is not among those that stay.
+pub fn leaving_turn_is_refused()
+    ensures { ¬ AreTurns add_loop arrays 20 }
+{}
+
+/// Cells that do not fit the nest: one that is stored to against its mark, one of which a use is left out,
+/// and one of 4 bytes where 8 are loaded.
+pub fn wrong_cells_are_refused()
+    ensures kept { ¬ AreCells outer (cells_with true false) counting 1 }
+    ensures unused { ¬ AreCells outer cells_without_store counting 1 }
+    ensures narrow { ¬ AreCells outer (cells_with false true) counting 1 }
+{}
+
+/// Two turns that store to the same bytes are not apart, though none loads a byte.
+pub fn turns_with_one_store_depend()
+    ensures turns { AreTurns store_loop storing 2 }
+    ensures cells { AreCells store_loop no_cells storing 2 }
+    ensures locations { HaveRoles store_loop no_cells store_roles storing 2 }
+    ensures not { ¬ AreApart store_loop no_cells storing 2 }
+{}
+
+/// A location that no word writes is not private, be it one of all or the only one.
+pub fn unwritten_is_not_private()
+    ensures all { ¬ HaveRoles add_loop no_cells (λ r. Private) arrays 1 }
+    ensures one { ¬ HaveRoles add_loop no_cells unwritten_roles arrays 1 }
+{}
+
+/// A form with a wrong stride does not hold in the second turn.
+pub fn wrong_stride_is_refused()
+    ensures { ¬ FormsHold nest two_cells fast_forms counting 2 }
 {}
