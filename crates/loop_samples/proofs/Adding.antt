@@ -1,5 +1,5 @@
 -- The loop that adds arrays: each of its visits, tested.
-use Rattle.std.proofs.Common.{◌≡◌, ℕ, zero, suc, ◌+◌, ◌*◌, ◌/◌, ◌%◌, ◌<◌, ◌≤◌, ◌⊎◌, inl, inr, Bool, true, false, ◌&&◌, refl, ap, sym, ◌∙◌, subst, arith, ◌==◌, nat_lt, nat_le}
+use Rattle.std.proofs.Common.{◌≡◌, ℕ, zero, suc, ◌+◌, ◌*◌, ◌/◌, ◌%◌, ◌<◌, ◌≤◌, ◌⊎◌, inl, inr, List, get_or, Bool, true, false, ◌&&◌, refl, ap, sym, ◌∙◌, subst, arith, ◌==◌, nat_lt, nat_le}
 use Rattle.std.proofs.lemmas.Bool.Decides.{nat_tests}
 use native.Mathlib.Decide.{dec_le}
 use Rattle.rv64_decode.specs.Ask.{Ask, Nothing, Loads, Stores}
@@ -7,11 +7,12 @@ use Rattle.rv64_decode.specs.declared.memory.Width.TheVariants.{Eight}
 use Rattle.rv64_decode.specs.declared.outcome.Next.TheVariants.{At}
 use Rattle.loop_data.specs.Nests.{has}
 use Rattle.loop_data.specs.Runs.{step, run, walk, pc_in, goes_at, access}
-use Rattle.rv64_decode.specs.Area.{Area}
+use Rattle.rv64_decode.specs.Area.{Area, number_at}
 use Rattle.loop_data.specs.Turns.{IsSameArea, AtLoop, turn, IsArrival, covers, loads_byte, stores_byte, Reads, Writes, Stays}
 use Rattle.loop_data.specs.Locations.{no_cells}
 use Rattle.loop_data.specs.Independent.{Keeps, AreApart, Independent}
 use Rattle.loop_samples.specs.AddLoop.{add_loop, areas, arrays, add_roles}
+use Rattle.loop_samples.specs.Refused.{other_areas}
 use Rattle.loop_samples.proofs.Visits.{Visit, visit, all_visits, and_true, passes_test, turns_from}
 use Rattle.loop_samples.proofs.Tests.{same_access, same_loads, same_stores, goes_is, eq_from, turn_test, IsTested, turns_from_test, roles_from_test, no_cells_kept, no_cells_same}
 
@@ -209,3 +210,24 @@ same_area a = record { low = refl; length = refl; readable = refl; writable = re
 
 pub at_loop : AtLoop areas add_loop arrays
 at_loop = record { at = refl; areas = (same_area _, (same_area _, tt)) }
+
+-- two turns have stored sums, and the code is as it was
+pub at_loop_again : AtLoop areas add_loop (run arrays 16)
+unfolding step
+at_loop_again =
+    record {
+      at = refl;
+      areas = (
+        record { low = refl; length = refl; readable = refl; writable = refl; executable = refl; code = λ e. refl },
+        (record { low = refl; length = refl; readable = refl; writable = refl; executable = refl; code = λ e. absurd (cc e) }, tt),
+      );
+    }
+
+pub stored_sum : number_at 8 (run arrays 16).memory 0x2_0148 ≡ 3
+unfolding step
+stored_sum = refl
+
+pub not_there : AtLoop other_areas add_loop arrays → ⊥
+not_there h =
+    let e = ap (λ (bytes : List ℕ). get_or bytes 0 0) (h.areas.0.code refl) in
+    let f : ◌≡◌ {A = ℕ} 3 131 = e in absurd (omega arith)

@@ -31,7 +31,8 @@ fast_forms u r = if (u == 0x1_0000) && (r == 5) then Some (moving 5 (pos 2)) els
 -- the areas of the loop that adds, but that its first word has one byte other than there: ld a5, 0(a1)
 abbrev pub other_words : List ℕ
 other_words =
-    0x0005_B783 ∷ 0x0006_3783 ∷ 0x00F7_0733 ∷ 0x00E5_3023 ∷ 0x0085_8593 ∷ 0x0086_0613 ∷ 0x0085_0513 ∷ 0xFED5_92E3 ∷ []
+    0x0005_B783 ∷ 0x0006_3783 ∷ 0x00F7_0733 ∷ 0x00E5_3023 ∷ 0x0085_8593 ∷ 0x0086_0613 ∷ 0x0085_0513
+    ∷ 0xFED5_92E3 ∷ []
 
 abbrev pub other_areas : List Area
 other_areas =

@@ -1,3 +1,4 @@
+ghost use Rattle.rv64_decode.specs.Area.{number_at};
 ghost use Rattle.loop_data.specs.Independent.{Role, Private, AreTurns, AreCells, AreApart, HaveRoles, Independent};
 ghost use Rattle.loop_data.specs.Holds.{FormsHold};
 ghost use Rattle.loop_data.specs.Locations.{no_cells, value_of};
@@ -28,15 +29,19 @@ pub fn add_loop_is_independent()
 {}
 
 /// Where a turn stores what the next one loads, two turns are not apart, while all else holds.
-pub fn chain_loop_is_not()
+pub fn turns_of_a_chain_depend()
     ensures turns { AreTurns chain_loop numbers 2 }
+    ensures cells { AreCells chain_loop no_cells numbers 2 }
     ensures locations { HaveRoles chain_loop no_cells chain_roles numbers 2 }
     ensures not { ¬ AreApart chain_loop no_cells numbers 2 }
 {}
 
-/// Where a turn needs a register of the turn before, no roles fit.
-pub fn sum_loop_is_not()
-    ensures { (roles : ℕ → Role) → ¬ HaveRoles sum_loop no_cells roles powers 2 }
+/// Where a turn needs a register of the turn before, no roles fit, while all else holds.
+pub fn a_carried_sum_is_no_role()
+    ensures turns { AreTurns sum_loop powers 2 }
+    ensures cells { AreCells sum_loop no_cells powers 2 }
+    ensures apart { AreApart sum_loop no_cells powers 2 }
+    ensures not { (roles : ℕ → Role) → ¬ HaveRoles sum_loop no_cells roles powers 2 }
 {}
 
 /// The nest with two cells: the passes that one counts by hand at each visit of its four turns, and the
@@ -93,4 +98,12 @@ pub fn unwritten_is_not_private()
 /// A form with a wrong stride does not hold in the second turn.
 pub fn wrong_stride_is_refused()
     ensures { ¬ FormsHold nest two_cells fast_forms counting 2 }
+{}
+
+/// After two turns the loop that adds is at its header again, with a sum other than 0 stored; it is not at
+/// the loop of areas whose code differs in one byte.
+pub fn code_tells_the_loop()
+    ensures again { AtLoop areas add_loop (run arrays 16) }
+    ensures sum { number_at 8 (run arrays 16).memory 0x2_0148 ≡ 3 }
+    ensures other { ¬ AtLoop other_areas add_loop arrays }
 {}

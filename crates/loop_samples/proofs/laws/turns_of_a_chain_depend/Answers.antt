@@ -1,8 +1,13 @@
+use Rattle.loop_samples.specs.ChainLoop.{chain_loop, numbers}
+use Rattle.loop_samples.proofs.Tests.{no_cells_kept}
 use Rattle.loop_samples.proofs.Chain.{turns, locations, not_apart}
-use Rattle.loop_samples.proofs.laws.chain_loop_is_not.Goals as goal
+use Rattle.loop_samples.proofs.laws.turns_of_a_chain_depend.Goals as goal
 
 pub returns-clause-turns : goal.returns-clause-turns
 returns-clause-turns c = turns
+
+pub returns-clause-cells : goal.returns-clause-cells
+returns-clause-cells c = no_cells_kept chain_loop numbers 2
 
 pub returns-clause-locations : goal.returns-clause-locations
 returns-clause-locations c = locations
