@@ -7,3 +7,4 @@ pub mod Summing
 pub mod Storing
 pub mod Nested
 pub mod Refused
+pub mod SerialRun

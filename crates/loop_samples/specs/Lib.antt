@@ -5,3 +5,4 @@ pub mod SumLoop
 pub mod StoreLoop
 pub mod NestLoop
 pub mod Refused
+pub mod SerialRun

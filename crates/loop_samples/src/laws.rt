@@ -11,7 +11,10 @@ ghost use Rattle.loop_samples.specs.NestLoop.{outer, nest, two_cells, counting, 
 ghost use Rattle.loop_samples.specs.SumLoop.{sum_loop, powers};
 ghost use Rattle.loop_samples.specs.StoreLoop.{store_loop, storing, store_roles};
 ghost use Rattle.loop_samples.specs.Refused.{cells_with, cells_without_store, unwritten_roles, fast_forms, other_areas};
-ghost use Rattle.std.specs.Prelude.{ℕ, true, false, ◌≡◌, ◌-◌, ◌^◌};
+ghost use Rattle.loop_samples.specs.SerialRun.{state_in, IsSerial};
+ghost use Rattle.serial_run.specs.Serial.{State as SerialState, ended, serial};
+ghost use Rattle.rv64_decode.specs.declared.outcome.Next.TheVariants.{At};
+ghost use Rattle.std.specs.Prelude.{ℕ, true, false, None, ◌≡◌, ◌-◌, ◌^◌};
 
 /// The loop that adds arrays of 20 numbers: its turns, the bytes that they read and write, and how many
 /// of them stay.
@@ -106,4 +109,11 @@ pub fn code_tells_the_loop()
     ensures again { AtLoop areas add_loop (run arrays 16) }
     ensures sum { number_at 8 (run arrays 16).memory 0x2_0148 ≡ 3 }
     ensures other { ¬ AtLoop other_areas add_loop arrays }
+{}
+
+/// The run of these definitions is the serial run as long as it goes on: from a machine without an ending,
+/// the n-th state has pc, registers and memory of the n-th machine, which has no ending either.
+pub fn run_is_serial()
+    ensures { (s : SerialState) (n pc : ℕ) → ended s ≡ None → (run (state_in s) n).next ≡ At pc
+        → IsSerial (run (state_in s) n) s (serial n s) }
 {}
