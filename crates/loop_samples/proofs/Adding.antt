@@ -231,3 +231,10 @@ pub not_there : AtLoop other_areas add_loop arrays → ⊥
 not_there h =
     let e = ap (λ (bytes : List ℕ). get_or bytes 0 0) (h.areas.0.code refl) in
     let f : ◌≡◌ {A = ℕ} 3 131 = e in absurd (omega arith)
+
+second_word : (run arrays 1).next ≡ At 0x1_00F4
+unfolding step
+second_word = refl
+
+pub not_yet : AtLoop areas add_loop (run arrays 1) → ⊥
+not_yet h = let e = ap pc_in (h.at) in let f = ap pc_in second_word in absurd (omega arith)

@@ -8,3 +8,4 @@ pub mod Storing
 pub mod Nested
 pub mod Refused
 pub mod SerialRun
+pub mod Spinning

@@ -13,7 +13,7 @@ use Rattle.loop_data.specs.Independent.{Private, IsAccess, AreTurns, AreCells, H
 use Rattle.loop_data.specs.Holds.{FormsHold}
 use Rattle.loop_samples.specs.AddLoop.{add_loop, arrays}
 use Rattle.loop_samples.specs.NestLoop.{outer, nest, two_cells, counter, counting}
-use Rattle.loop_samples.specs.Refused.{cells_with, cells_without_store, unwritten_roles, fast_forms}
+use Rattle.loop_samples.specs.Refused.{cells_with, cells_without_store, unwritten_roles, fast_forms, gap_loop}
 use Rattle.loop_samples.proofs.Visits.{turn_elsewhere}
 use Rattle.loop_samples.proofs.Adding as adding
 
@@ -108,3 +108,15 @@ one_is_two h = h 13 (omega arith) refl 5 _ refl
 
 pub not_fast : FormsHold nest two_cells fast_forms counting 2 → ⊥
 not_fast h = let a = one_is_two h in let e = a.is in absurd (omega (arith, ints))
+
+-- visit 4 is at the word that is left out
+in_gap : goes_at (has gap_loop.body) (run arrays 4).next ≡ false
+unfolding step
+in_gap = refl
+
+gap_turn : turn gap_loop arrays 4 ≡ 0
+unfolding step
+gap_turn = refl
+
+pub not_round : AreTurns gap_loop arrays 1 → ⊥
+not_round a = let e = gap_turn in let f = a.inside 4 (omega arith) in let g = in_gap in absurd (cc)

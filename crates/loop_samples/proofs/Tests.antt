@@ -1,4 +1,4 @@
--- What the first turns of a loop without cells are tested for, and what the tests give.
+-- What the first turns of a loop are tested for, and what the tests give.
 use Rattle.std.proofs.Common.{◌≡◌, ◌≢◌, ℕ, zero, suc, ◌+◌, ◌<◌, ◌≤◌, List, [], ◌∷◌, Bool, true, false, ◌&&◌, ◌||◌, not, length, Option, Some, None, refl, ap, ◌∙◌, subst, arith, ◌==◌, nat_lt, nat_le, pos, ℤ, ◌+ℤ◌, ◌*ℤ◌}
 use Rattle.std.proofs.lemmas.Bool.Decides.{nat_tests}
 use native.Mathlib.Decide.{dec_le}

@@ -6,3 +6,4 @@ pub mod StoreLoop
 pub mod NestLoop
 pub mod Refused
 pub mod SerialRun
+pub mod SpinLoop

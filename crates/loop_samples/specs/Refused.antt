@@ -2,10 +2,11 @@
 use Rattle.std.specs.Prelude.{ℕ, ◌==◌, Bool, ◌&&◌, if◌then◌else◌, List, [], ◌∷◌, ◌++◌, Option, Some, None, pos}
 use Rattle.rv64_decode.specs.Area.{Area}
 use Rattle.linear_forms.specs.Forms.{LinearForm, moving}
+use Rattle.loop_data.specs.declared.shape.Level.{Level}
 use Rattle.loop_data.specs.Locations.{CellMap}
 use Rattle.loop_data.specs.Independent.{Role, Private}
 use Rattle.loop_samples.specs.Samples.{series, code_area, data_area}
-use Rattle.loop_samples.specs.AddLoop.{add_roles}
+use Rattle.loop_samples.specs.AddLoop.{add_loop, add_roles}
 use Rattle.loop_samples.specs.NestLoop.{counter, number, used_by}
 
 -- the cells of the nest, where the counter is such a cell
@@ -37,3 +38,10 @@ other_words =
 abbrev pub other_areas : List Area
 other_areas =
     code_area 0x1_00F0 other_words ∷ data_area 0x2_0000 (series 20 0 1 ++ series 20 0 2 ++ series 20 0 0) ∷ []
+
+-- the loop that adds, but that one of its words is no word of the loop
+abbrev pub gap_loop : Level
+gap_loop =
+    record add_loop {
+      body = 0x1_00F0 ∷ 0x1_00F4 ∷ 0x1_00F8 ∷ 0x1_00FC ∷ 0x1_0104 ∷ 0x1_0108 ∷ 0x1_010C ∷ [];
+    }

@@ -10,7 +10,8 @@ ghost use Rattle.loop_samples.specs.ChainLoop.{chain_loop, numbers, chain_roles}
 ghost use Rattle.loop_samples.specs.NestLoop.{outer, nest, two_cells, counting, nest_roles, nest_forms, NestPasses, NestPassed};
 ghost use Rattle.loop_samples.specs.SumLoop.{sum_loop, powers};
 ghost use Rattle.loop_samples.specs.StoreLoop.{store_loop, storing, store_roles};
-ghost use Rattle.loop_samples.specs.Refused.{cells_with, cells_without_store, unwritten_roles, fast_forms, other_areas};
+ghost use Rattle.loop_samples.specs.Refused.{cells_with, cells_without_store, unwritten_roles, fast_forms, other_areas, gap_loop};
+ghost use Rattle.loop_samples.specs.SpinLoop.{spin_loop, spinning};
 ghost use Rattle.loop_samples.specs.SerialRun.{state_in, IsSerial};
 ghost use Rattle.serial_run.specs.Serial.{State as SerialState, ended, serial};
 ghost use Rattle.rv64_decode.specs.declared.outcome.Next.TheVariants.{At};
@@ -71,9 +72,12 @@ pub fn stays_for_one_number()
     ensures { (l : Level) (s : State) (a b : ℕ) → Stays l s a → Stays l s b → a ≡ b }
 {}
 
-/// The turn that leaves is not among those that stay.
-pub fn leaving_turn_is_refused()
-    ensures { ¬ AreTurns add_loop arrays 20 }
+/// The turn that leaves is not among those that stay, nor is one by a word that is not the loop's, nor one
+/// that never arrives again.
+pub fn wrong_turns_are_refused()
+    ensures leaving { ¬ AreTurns add_loop arrays 20 }
+    ensures outside { ¬ AreTurns gap_loop arrays 1 }
+    ensures endless { ¬ AreTurns spin_loop spinning 1 }
 {}
 
 /// Cells that do not fit the nest: one that is stored to against its mark, one of which a use is left out,
@@ -104,11 +108,12 @@ pub fn wrong_stride_is_refused()
 {}
 
 /// After two turns the loop that adds is at its header again, with a sum other than 0 stored; it is not at
-/// the loop of areas whose code differs in one byte.
+/// the loop of areas whose code differs in one byte, nor at its header after one word.
 pub fn code_tells_the_loop()
     ensures again { AtLoop areas add_loop (run arrays 16) }
     ensures sum { number_at 8 (run arrays 16).memory 0x2_0148 ≡ 3 }
     ensures other { ¬ AtLoop other_areas add_loop arrays }
+    ensures within { ¬ AtLoop areas add_loop (run arrays 1) }
 {}
 
 /// The run of these definitions is the serial run as long as it goes on: from a machine without an ending,

@@ -1,4 +1,4 @@
-use Rattle.loop_samples.proofs.Adding.{at_loop_again, stored_sum, not_there}
+use Rattle.loop_samples.proofs.Adding.{at_loop_again, stored_sum, not_there, not_yet}
 use Rattle.loop_samples.proofs.laws.code_tells_the_loop.Goals as goal
 
 pub returns-clause-again : goal.returns-clause-again
@@ -9,3 +9,6 @@ returns-clause-other c = not_there
 
 pub returns-clause-sum : goal.returns-clause-sum
 returns-clause-sum c = stored_sum
+
+pub returns-clause-within : goal.returns-clause-within
+returns-clause-within c = not_yet
