@@ -12,7 +12,6 @@ use Rattle.rv64_decode.specs.declared.memory.Width.{Width}
 use Rattle.rv64_decode.specs.declared.memory.Width.TheVariants.{One, Two, Four, Eight}
 use Rattle.guest_memory.specs.Spans.{permits, permits_in, all_permitted, with_bytes_at}
 use Rattle.guest_memory.proofs.Areas.{holds_inside, inside_holds}
-
 use Rattle.rv64_decode.specs.declared.memory.MemFault.{MemFault}
 use Rattle.rv64_decode.specs.declared.memory.MemFault.TheVariants.{Denied, Misaligned}
 
@@ -39,8 +38,8 @@ with_byte-keeps [] x b h = tt
 with_byte-keeps (a ∷ rest) x b h = go (holds a x) h (with_byte-keeps rest x b)
   where
     go : (t : Bool) → MayWrite (if t then Some a else area_at rest x)
-      → (MayWrite (area_at rest x) → KeepAreas rest (with_byte rest x b))
-      → KeepAreas (a ∷ rest) (if t then record a { bytes = set a.bytes (x - a.low) b } ∷ rest else a ∷ with_byte rest x b)
+        → (MayWrite (area_at rest x) → KeepAreas rest (with_byte rest x b))
+        → KeepAreas (a ∷ rest) (if t then record a { bytes = set a.bytes (x - a.low) b } ∷ rest else a ∷ with_byte rest x b)
     go true w later = (refl, refl, refl, refl, length-set a.bytes (x - a.low) b, (λ e. cc), keep_self rest)
     go false w later = (refl, refl, refl, refl, refl, (λ e. refl), later w)
 
@@ -53,6 +52,7 @@ keep-area_at (a ∷ m) (b ∷ n) x k h = go (holds a x) (holds b x) same h (keep
   where
     same : holds b x ≡ holds a x
     same = rw (k.0, k.4) refl
+
     go : (s t : Bool) → t ≡ s → MayWrite (if s then Some a else area_at m x) → (MayWrite (area_at m x) → MayWrite (area_at n x)) → MayWrite (if t then Some b else area_at n x)
     go true true e w later = k.2 ∙ w
     go true false e w later = cc
@@ -66,8 +66,8 @@ with_bytes_at-keeps m x (b ∷ rest) h =
     let place : x + 0 ≡ x = omega arith in
     let first = with_byte-keeps m x b (rw place at (h 0 (omega arith))) in
     let later = with_bytes_at-keeps (with_byte m x b) (suc x) rest (λ k l.
-      let next : x + suc k ≡ suc x + k = omega arith in
-      keep-area_at m (with_byte m x b) (suc x + k) first (rw next at (h (suc k) (omega arith)))) in
+    let next : x + suc k ≡ suc x + k = omega arith in
+    keep-area_at m (with_byte m x b) (suc x + k) first (rw next at (h (suc k) (omega arith)))) in
     keep_on m (with_byte m x b) (with_bytes_at (with_byte m x b) (suc x) rest) first later
 
 -- so many bytes of a number
@@ -77,8 +77,8 @@ with_number-keeps (suc n) m x value h =
     let place : x + 0 ≡ x = omega arith in
     let first = with_byte-keeps m x (value % 256) (rw place at (h 0 (omega arith))) in
     let later = with_number-keeps n (with_byte m x (value % 256)) (suc x) (value / 256) (λ k l.
-      let next : x + suc k ≡ suc x + k = omega arith in
-      keep-area_at m (with_byte m x (value % 256)) (suc x + k) first (rw next at (h (suc k) (omega arith)))) in
+    let next : x + suc k ≡ suc x + k = omega arith in
+    keep-area_at m (with_byte m x (value % 256)) (suc x + k) first (rw next at (h (suc k) (omega arith)))) in
     keep_on m (with_byte m x (value % 256)) (with_number n (with_byte m x (value % 256)) (suc x) (value / 256)) first later
 
 -- all bytes of an aligned access lie in the area of the first, or outside it
@@ -90,11 +90,13 @@ same_holds w a x k low size at within = go (holds a x) (holds a (x + k)) refl re
     there Two at within h = (omega arith, omega arith)
     there Four at within h = (omega arith, omega arith)
     there Eight at within h = (omega arith, omega arith)
+
     back : (w : Width) → x % bytes_of w ≡ 0 → k < bytes_of w → (a.low ≤ x + k) × (x + k < end_of a) → (a.low ≤ x) × (x < end_of a)
     back One at within h = (omega arith, omega arith)
     back Two at within h = (omega arith, omega arith)
     back Four at within h = (omega arith, omega arith)
     back Eight at within h = (omega arith, omega arith)
+
     go : (s t : Bool) → holds a x ≡ s → holds a (x + k) ≡ t → t ≡ s
     go true true e f = refl
     go true false e f =
@@ -116,8 +118,7 @@ keep-lie from [] [] lie k = tt
 keep-lie from [] (b ∷ n) lie k = absurd k
 keep-lie from (a ∷ m) [] lie k = absurd k
 keep-lie from (a ∷ m) (b ∷ n) lie k =
-    let ends : end_of a ≡ end_of b = rw (k.0, k.4) refl in
-    (
+    let ends : end_of a ≡ end_of b = rw (k.0, k.4) refl in (
       rw k.0 lie.0,
       rw k.0 lie.1,
       rw k.4 lie.2,
@@ -137,6 +138,7 @@ store-keeps w m x value lie none = go (x % bytes_of w == 0) refl none
         writes : (b : Bool) → (if b then None else Some Denied) ≡ None → b ≡ true
         writes true e = refl
         writes false e = cc
+
     go : (b : Bool) → (x % bytes_of w == 0) ≡ b → (if b then why_in writable_of (area_at m x) else Some Misaligned) ≡ None → KeepAreas m (with_number (bytes_of w) m x value)
     go true e n =
         let at : x % bytes_of w ≡ 0 = grind (arith, nat_tests) in
@@ -159,9 +161,11 @@ span-keeps m x bytes h = with_bytes_at-keeps m x bytes (each (length bytes) x h)
     may : (o : Option Area) → permits_in writable_of o ≡ true → MayWrite o
     may None e = tt
     may (Some a) e = e
+
     both : (a b : Bool) → (a && b) ≡ true → (a ≡ true) × (b ≡ true)
     both true b h = (refl, h)
     both false b h = cc
+
     each : (n x : ℕ) → all_permitted writable_of n m x ≡ true → (k : ℕ) → k < n → MayWrite (area_at m (x + k))
     each zero x h k l = absurd (omega arith)
     each (suc n) x h zero l =
@@ -189,7 +193,7 @@ why-keeps (a ∷ m) [] x k = absurd k
 why-keeps (a ∷ m) (b ∷ n) x k = go (holds a x) (holds b x) (rw (k.0, k.4) refl) (why-keeps m n x k.6)
   where
     go : (s t : Bool) → t ≡ s → why_in executable_of (area_at n x) ≡ why_in executable_of (area_at m x)
-      → why_in executable_of (if t then Some b else area_at n x) ≡ why_in executable_of (if s then Some a else area_at m x)
+        → why_in executable_of (if t then Some b else area_at n x) ≡ why_in executable_of (if s then Some a else area_at m x)
     go true true e later = rw k.3 refl
     go true false e later = cc
     go false true e later = cc
@@ -202,8 +206,8 @@ byte-keeps from (a ∷ m) [] x lie k p = absurd k
 byte-keeps from (a ∷ m) (b ∷ n) x lie k p = go (holds a x) (holds b x) (rw (k.0, k.4) refl) p (byte-keeps (end_of a) m n x lie.4 k.6)
   where
     go : (s t : Bool) → t ≡ s → permits_in executable_of (if s then Some a else area_at m x) ≡ true
-      → (permits executable_of m x ≡ true → byte_at n x ≡ byte_at m x)
-      → (if t then slice_index b.bytes (x - b.low) else byte_at n x) ≡ (if s then slice_index a.bytes (x - a.low) else byte_at m x)
+        → (permits executable_of m x ≡ true → byte_at n x ≡ byte_at m x)
+        → (if t then slice_index b.bytes (x - b.low) else byte_at n x) ≡ (if s then slice_index a.bytes (x - a.low) else byte_at m x)
     go true true e q later =
         let same = k.5 (both a.writable a.executable lie.5 q) in rw (k.0, same) refl
     go true false e q later = cc
@@ -221,6 +225,7 @@ fetch-keeps m n x lie k = go (x % 4 == 0) refl (why_in executable_of (area_at m 
         runs : (b : Bool) → (if b then None else Some Denied) ≡ None → b ≡ true
         runs true e = refl
         runs false e = cc
+
     go : (b : Bool) → (x % 4 == 0) ≡ b → (o : Option MemFault) → why_in executable_of (area_at m x) ≡ o → fetch_of n x ≡ fetch_of m x
     go false e o f = rw e refl
     go true e None f =

@@ -33,25 +33,31 @@ impl Model for GuestArea {
     ghost Value = { Area };
 
     ghost view = { λ a. record {
-        low = a.low;
-        readable = a.readable;
-        writable = a.writable;
-        executable = a.executable;
-        bytes = a.bytes.items
+      low = a.low;
+      readable = a.readable;
+      writable = a.writable;
+      executable = a.executable;
+      bytes = a.bytes.items;
     } };
 
     ghost invariant = { λ a. a.low + length a.bytes.items < 2 ^ 63 };
 }
 
 impl GuestArea {
-    pub fn new(low: u64, readable: bool, writable: bool, executable: bool, bytes: Vec<u8>) -> GuestArea
+    pub fn new(
+        low: u64,
+        readable: bool,
+        writable: bool,
+        executable: bool,
+        bytes: Vec<u8>,
+    ) -> GuestArea
         requires { low + length bytes.items < 2 ^ 63 }
         ensures { result ≡ record {
-            low = low;
-            readable = readable;
-            writable = writable;
-            executable = executable;
-            bytes = bytes.items
+          low = low;
+          readable = readable;
+          writable = writable;
+          executable = executable;
+          bytes = bytes.items;
         } }
     {
         GuestArea {
@@ -151,7 +157,7 @@ impl GuestArea {
         requires from { self.old.low ≤ addr }
         requires to { addr + bytes_of width ≤ end_of self.old }
         ensures { self.new ≡ record self.old {
-            bytes = with_bytes (bytes_of width) (addr - self.old.low) value self.old.bytes
+          bytes = with_bytes (bytes_of width) (addr - self.old.low) value self.old.bytes;
         } }
     {
         let place = (addr - self.low) as usize;

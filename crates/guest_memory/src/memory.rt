@@ -4,8 +4,8 @@ ghost use Rattle.guest_memory.specs.Layout.{AreasLieFrom, end_of};
 ghost use Rattle.guest_memory.specs.Spans.{permits, all_permitted, bytes_at, with_bytes_at, all_bytes};
 ghost use Rattle.guest_memory.specs.Words.{word_of, words_of};
 
-use crate::lookup::{fetch_from, load_from, peek_from, set_word_in, store_to, word_from};
 use crate::area::{Access, GuestArea};
+use crate::lookup::{fetch_from, load_from, peek_from, set_word_in, store_to, word_from};
 use crate::spans::{allows_all, dump_of, piece_of, set_span, words_from};
 use rv64_decode::{MemFault, Width, Words};
 use std::alloc::{AllocError, Global};

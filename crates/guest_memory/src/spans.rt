@@ -5,13 +5,19 @@ ghost use Rattle.guest_memory.specs.Layout.{AreasLieFrom, end_of, nth_area};
 ghost use Rattle.guest_memory.specs.Spans.{permits, all_permitted, bytes_at, with_bytes_at, all_bytes};
 ghost use Rattle.guest_memory.specs.Words.{word_of, words_in, words_of};
 
-use crate::lookup::find;
 use crate::area::{Access, GuestArea};
+use crate::lookup::find;
 use rv64_decode::Width;
 use std::alloc::{AllocError, Global};
 
 // Whether each of the bytes allows the access, area by area.
-pub(crate) fn allows_all(areas: &[GuestArea], last: usize, access: Access, addr: u64, len: u64) -> bool
+pub(crate) fn allows_all(
+    areas: &[GuestArea],
+    last: usize,
+    access: Access,
+    addr: u64,
+    len: u64,
+) -> bool
     requires { AreasLieFrom 0 areas.now }
     ensures value { result ≡ all_permitted (permission_of access) len areas.now addr }
     ensures fits { result ≡ true → addr + len < 2 ^ 64 }

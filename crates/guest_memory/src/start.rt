@@ -2,9 +2,9 @@ ghost use Rattle.std.specs.Prelude.{◌≡◌, ◌+◌, ◌<◌, ◌≤◌, ◌^
 ghost use Rattle.elf_image.specs.Layout.{IsLoadable, load_end, rounded_low, rounded_end};
 ghost use Rattle.guest_memory.specs.Areas.{zeros, segment_area, data_area, areas_of, heap_low};
 
+use crate::area::GuestArea;
 use crate::lookup::search_for;
 use crate::memory::Memory;
-use crate::area::GuestArea;
 use elf_image::{Elf, Segment};
 use std::alloc::{AllocError, Global};
 

@@ -37,10 +37,19 @@ impl GraphWords {
         GraphWords { words }
     }
 
+    /// The words as a slice.
     pub fn as_slice(&self) -> &[Word]
         ensures { result.now ≡ self.now }
     {
         self.words.as_slice()
+    }
+
+    /// The words, given back without a copy.
+    pub fn into_vec(self) -> Vec<Word>
+        ensures { result.items ≡ self }
+    {
+        let GraphWords { words } = self;
+        words
     }
 }
 
@@ -66,10 +75,19 @@ impl Addresses {
         Addresses { addresses }
     }
 
+    /// The addresses as a slice.
     pub fn as_slice(&self) -> &[u64]
         ensures { result.now ≡ self.now }
     {
         self.addresses.as_slice()
+    }
+
+    /// The addresses, given back without a copy.
+    pub fn into_vec(self) -> Vec<u64>
+        ensures { result.items ≡ self }
+    {
+        let Addresses { addresses } = self;
+        addresses
     }
 }
 

@@ -1,9 +1,11 @@
 //! What is known of a program's loops: its reached words, their loops, and a verdict for each.
 //!
 //! `specs/` has the definitions that all crates about loops cite: the reached words of an executable as a
-//! graph (`Code`, `Targets`, `Reaching`, `Graphs`), and its loops (`Paths`, `Sets`, `Bodies`,
-//! `Instructions`, `Shape`, `Early`, `Listed`, `Loops`). They speak of addresses, words and what these
-//! stand for, and of nothing of the code that finds them.
+//! graph (`Code`, `Targets`, `Reaching`, `Graphs`, `Starts`), its loops (`Paths`, `Sets`, `Bodies`,
+//! `Instructions`, `Shape`, `Early`, `Listed`, `Loops`), what the levels of a loop promise (`Nests`,
+//! `LoopWords`), and the turns of a loop in a run (`Runs`, `Turns`, `Passes`, `Locations`, `Independent`,
+//! `Holds`). They speak of addresses, words and what these stand for, and of nothing of the code that finds
+//! them.
 #![tactic(auto)]
 
 pub mod graph;

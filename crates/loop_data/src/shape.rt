@@ -42,10 +42,19 @@ impl Levels {
         Levels { levels }
     }
 
+    /// The loops as a slice.
     pub fn as_slice(&self) -> &[Level]
         ensures { result.now ≡ self.now }
     {
         self.levels.as_slice()
+    }
+
+    /// The loops, given back without a copy.
+    pub fn into_vec(self) -> Vec<Level>
+        ensures { result.items ≡ self }
+    {
+        let Levels { levels } = self;
+        levels
     }
 }
 

@@ -17,7 +17,7 @@ use crate::reply::{Reply, reply_with};
 use crate::report::write_all;
 use crate::status::{Reason, Status};
 use elf_image::{Elf, read_elf};
-use flow_recovery::laws::reached_words;
+use flow_recovery::laws::{reached_words, starts};
 use flow_recovery::{FlowErr, recover};
 use loop_data::LoopShape;
 use loop_shapes::loops;
@@ -47,6 +47,7 @@ fn lines_in(alloc: Global, elf: &Elf) -> Result<String, Status>
     ensures kind { IfErr result (λ e. (is_refusal e ≡ true) × (e ≢ Status.StoreFault)) }
 {
     reached_words();
+    starts();
     let graph = match recover(alloc, elf) {
         Ok(graph) => graph,
         Err(FlowErr::TooManyWords { count }) => {
