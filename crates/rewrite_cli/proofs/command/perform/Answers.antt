@@ -1,9 +1,24 @@
 use Rattle.std.proofs.Common.{refl, None}
 use Rattle.rewrite_cli.specs.declared.status.Status.TheVariants.{Usage}
+use Rattle.rewrite_cli.specs.Answer.{stream}
 use Rattle.rewrite_cli.proofs.Done.{plain_done}
 use Rattle.rewrite_cli.proofs.command.perform.Goals as goal
 
 pub returns-in-Unknown-clause-done : goal.returns-in-Unknown-clause-done
 returns-in-Unknown-clause-done g c =
-    rw c.in-Unknown.is (plain_done None _ _ _ Usage _ _ c.reply_with.ensures.answer c.reply_with.ensures.text refl
-    (λ m xs. refl))
+    rw c.in-Unknown.is
+    (plain_done None _ _ _ Usage _ _ c.reply_with.ensures.answer c.reply_with.ensures.text refl (λ m xs. refl))
+
+pub returns-in-Loops-clause-done : goal.returns-in-Loops-clause-done
+returns-in-Loops-clause-done g c =
+    rw c.in-Loops.is
+    (c.list_file.ensures.done (stream (g.I.Source.rest c.args.input.now) (g.I.Source.faults c.args.input.now)))
+
+pub returns-in-Rewrite-clause-done : goal.returns-in-Rewrite-clause-done
+returns-in-Rewrite-clause-done g c =
+    rw c.in-Rewrite.is
+    (c.rewrite_file.ensures (stream (g.I.Source.rest c.args.input.now) (g.I.Source.faults c.args.input.now))
+    (stream (g.O.Sink.written c.args.out.now) (g.O.Sink.faults c.args.out.now)))
+
+pub returns-in-Run-clause-done : goal.returns-in-Run-clause-done
+returns-in-Run-clause-done g c = rw c.in-Run.is c.run_file.ensures.done
