@@ -6,13 +6,13 @@ use Rattle.outside_ports.specs.Ports.{Files, Rose, SameButIn, SavedIn}
 use Rattle.rewrite_cli.specs.Words.{Command}
 use Rattle.rewrite_cli.specs.Needs.{needs_of, LacksOne, IsOther, SameBut}
 use Rattle.rewrite_cli.specs.Effect.{Effect, Does, StartsRun, Moment, Passes, only}
-use Rattle.rewrite_cli.specs.Answer.{Stored, Stream, Outside, outside, Tells, Appends, Leaves, AreSaved, StayBut, IsMet, IsUntouched, StopsBehind, Stops, HasCause, IsDone}
+use Rattle.rewrite_cli.specs.Answer.{Stored, Stream, Outside, outside, IsGiven, Tells, Appends, Leaves, AreSaved, StayBut, IsMet, IsUntouched, StopsBehind, Stops, HasCause, IsDone}
 use Rattle.rewrite_cli.specs.Counts.{no_counts}
-use Rattle.rewrite_cli.specs.Status.{is_from_outside, is_refusal}
+use Rattle.rewrite_cli.specs.Status.{is_from_outside, is_refusal, is_ending, keeps_files}
 use Rattle.rewrite_cli.specs.Texts.{report_of}
 use Rattle.rewrite_cli.specs.declared.counts.Counts.{Counts}
 use Rattle.rewrite_cli.specs.declared.status.Status.{Status}
-use Rattle.rewrite_cli.specs.declared.status.Status.TheVariants.{Usage, Refused, OutOfMemory, WriteFault, StoreFault, ReadFault}
+use Rattle.rewrite_cli.specs.declared.status.Status.TheVariants.{Exited, Faulted, Usage, Refused, OutOfMemory, WriteFault, StoreFault, ReadFault}
 
 -- ---- what does not change
 
@@ -225,3 +225,22 @@ plain_done command store input output status answer text kept t cause does =
       stopped = λ m xs tells f. inl (record { output = refl; rest = refl; files = refl });
       others = λ m files. same_but m store.files (needs_of command).saves files;
     }
+
+-- ---- what an answer with its report says of the one that was to be given
+
+pub kept_given : (answer given : Status) (text : List ℕ) (before after : Stream) (Same : Type 0)
+    → IsGiven answer text before after given → (keeps_files answer ≡ true → Same) → keeps_files given ≡ true
+    → ((given ≡ WriteFault) × Rose before.faults after.faults) ⊎ Same
+kept_given answer given text before after Same (inl g) same h = inr (same (sym (ap keeps_files g.0) ∙ h))
+kept_given answer given text before after Same (inr g) same h = inl (g.0, g.1)
+
+pub same_given : (answer given wanted : Status) (text : List ℕ) (before after : Stream) (Same : Type 0)
+    → IsGiven answer text before after given → (answer ≡ wanted → Same) → wanted ≢ WriteFault → given ≡ wanted → Same
+same_given answer given wanted text before after Same (inl g) same other e = same (sym g.0 ∙ e)
+same_given answer given wanted text before after Same (inr g) same other e = absurd (other (sym e ∙ g.0))
+
+-- a file is saved of an ending alone
+pub ending_saves : (status : Status) → is_ending status ≡ true → keeps_files status ≡ false
+ending_saves (Exited code) e = refl
+ending_saves (Faulted kind pc addr) e = refl
+ending_saves _ e = absurd (cc)

@@ -36,6 +36,15 @@ comes_first Usage = true
 comes_first (Refused why) = true
 comes_first _ = false
 
+-- an answer after which all files are as they were; WriteFault is one where it was the output that failed
+abbrev pub keeps_files : Status → Bool
+keeps_files Usage = true
+keeps_files (Refused why) = true
+keeps_files Spent = true
+keeps_files ReadFault = true
+keeps_files WriteFault = true
+keeps_files _ = false
+
 -- an answer in place of what a file holds
 abbrev pub is_refusal : Status → Bool
 is_refusal (Refused why) = true

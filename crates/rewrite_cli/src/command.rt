@@ -1,9 +1,9 @@
-ghost use Rattle.std.specs.Prelude.{◌≡◌, [], Some, None, map, string_bytes, true, false};
-ghost use Rattle.outside_ports.specs.Ports.{Files};
+ghost use Rattle.std.specs.Prelude.{◌≡◌, ◌≤◌, ◌⊎◌, [], Some, None, length, map, string_bytes, true, false};
+ghost use Rattle.outside_ports.specs.Ports.{Files, Rose};
 ghost use Rattle.rewrite_cli.specs.Words.{command_of};
 ghost use Rattle.rewrite_cli.specs.Reading.{command_shown, text_of};
 ghost use Rattle.rewrite_cli.specs.Needs.{needs_of};
-ghost use Rattle.rewrite_cli.specs.Status.{comes_first};
+ghost use Rattle.rewrite_cli.specs.Status.{comes_first, keeps_files};
 ghost use Rattle.rewrite_cli.specs.Effect.{StartsRun, StartsOutput};
 ghost use Rattle.rewrite_cli.specs.Answer.{IsAnswered, IsDone, outside, stored, stream};
 
@@ -31,6 +31,10 @@ fn perform<S: Store, I: Source, O: Sink>(
         let after = outside (stored (S.files store.new) (S.faults store.new))
         (stream (I.rest input.new) (I.faults input.new)) (stream (O.written out.new) (O.faults out.new)) in
         IsDone (command_shown command.entry) before after result.status (text_of result) }
+    ensures kept { keeps_files result.status ≡ true → S.files store.new ≡ S.files store.old }
+    ensures wanting { result.status ≡ Status.OutOfMemory → S.files store.new ≡ S.files store.old }
+    ensures unsaved { (needs_of (command_shown command.entry)).saves ≡ [] → result.status ≡ Status.StoreFault
+        → (input.new ≡ input.old) × (out.new ≡ out.old) }
     ensures refused { comes_first result.status ≡ true → (input.new ≡ input.old) × (out.new ≡ out.old) }
     ensures unread { (m : Files) → S.files store.old ≡ Some m → ¬ StartsRun (command_shown command.entry) m
         → input.new ≡ input.old }
@@ -80,6 +84,16 @@ pub fn command<R: Threads + Sync, S: Store, I: Source, O: Sink, P: Sink, G: Gate
     ensures unwritten { (m : Files) → S.files store.old ≡ Some m
         → ¬ StartsOutput (command_of (map string_bytes words.now)) m
         → out.new ≡ out.old }
+
+    // Which answers leave all files as they were, whatever the ports tell: the report may have failed behind
+    // a save.
+    ensures kept { keeps_files result ≡ true
+        → ((result ≡ Status.WriteFault) × Rose (P.faults report.old) (P.faults report.new))
+        ⊎ (S.files store.new ≡ S.files store.old) }
+    ensures wanting { result ≡ Status.OutOfMemory → length (needs_of (command_of (map string_bytes words.now))).saves ≤ 1
+        → S.files store.new ≡ S.files store.old }
+    ensures unsaved { (needs_of (command_of (map string_bytes words.now))).saves ≡ [] → result ≡ Status.StoreFault
+        → (input.new ≡ input.old) × (out.new ≡ out.old) }
 
     // What the command does not need is not asked.
     ensures store_unasked { let needs = needs_of (command_of (map string_bytes words.now)) in needs.loads ≡ []

@@ -1,8 +1,8 @@
-ghost use Rattle.std.specs.Prelude.{◌≡◌, ◌≤◌, ◌⊎◌, Some, IfOk, true, false};
+ghost use Rattle.std.specs.Prelude.{◌≡◌, ◌≢◌, ◌≤◌, ◌⊎◌, Some, IfOk, IsSome, IsNone, true, false};
 ghost use Rattle.std.specs.Option.{option_copied};
 ghost use Rattle.outside_ports.specs.Ports.{Files, Rose};
 ghost use Rattle.rewrite_cli.specs.Counts.{of_steps};
-ghost use Rattle.rewrite_cli.specs.Status.{is_from_outside};
+ghost use Rattle.rewrite_cli.specs.Status.{is_from_outside, is_ending, keeps_files};
 ghost use Rattle.rewrite_cli.specs.Texts.{report_of};
 ghost use Rattle.rewrite_cli.specs.Needs.{SameBut, names_of};
 ghost use Rattle.rewrite_cli.specs.Effect.{dump_of};
@@ -33,7 +33,9 @@ fn dump_under<'a>(
     status: &Status,
     memory: &Memory,
 ) -> Result<Option<Dump<'a>>, AllocError>
-    ensures { IfOk result (λ dump. dump_shown dump ≡ dump_of (option_copied name.entry) status.now memory.now) }
+    ensures value { IfOk result (λ dump. dump_shown dump ≡ dump_of (option_copied name.entry) status.now memory.now) }
+    ensures ending { IfOk result (λ dump. IsSome dump → is_ending status.now ≡ true) }
+    ensures named { IfOk result (λ dump. IsSome dump → IsSome name.entry) }
 {
     let Some(name) = name else {
         return Ok(None);
@@ -68,6 +70,9 @@ pub fn save_memory<S: Store>(
     ensures others { (m : Files) → S.files store.old ≡ Some m
         → SameBut m (S.files store.new) (names_of (option_copied name.entry)) }
     ensures store_fault { result.status ≡ Status.StoreFault → Rose (S.faults store.old) (S.faults store.new) }
+    ensures kept { keeps_files result.status ≡ true → S.files store.new ≡ S.files store.old }
+    ensures wanting { result.status ≡ Status.OutOfMemory → S.files store.new ≡ S.files store.old }
+    ensures unsaved { IsNone name.entry → result.status ≢ Status.StoreFault }
     ensures never_falls { S.faults store.old ≤ S.faults store.new }
 {
     let counts = Counts::Steps(steps);

@@ -114,6 +114,8 @@ pub fn list_file<S: Store, O: Sink>(alloc: Global, file: &str, store: &mut S, ou
         let after = outside (stored (S.files store.new) (S.faults store.new)) input listed in
         IsDone (Some (Loops file.now)) before after result.status (text_of result) }
     ensures refused { comes_first result.status ≡ true → out.new ≡ out.old }
+    ensures kept { S.files store.new ≡ S.files store.old }
+    ensures unsaved { result.status ≡ Status.StoreFault → out.new ≡ out.old }
     ensures unwritten { (m : Files) → S.files store.old ≡ Some m → ((lines : List ℕ) → ¬ HoldsLines (m file.now) lines)
         → out.new ≡ out.old }
 {

@@ -1,7 +1,7 @@
 ghost use Rattle.std.specs.Prelude.{◌≡◌, ◌≢◌, ◌≤◌, ◌⊎◌, ℕ, List, Ok, Some, true, false, IfOk, IfErr};
 ghost use Rattle.outside_ports.specs.Ports.{Files, Rose, Lacks};
 ghost use Rattle.rewriter.specs.Rewriting.{rewriting_of};
-ghost use Rattle.rewrite_cli.specs.Status.{is_from_outside, is_refusal};
+ghost use Rattle.rewrite_cli.specs.Status.{is_from_outside, is_refusal, keeps_files};
 ghost use Rattle.rewrite_cli.specs.Words.{Rewrite};
 ghost use Rattle.rewrite_cli.specs.Reading.{text_of};
 ghost use Rattle.rewrite_cli.specs.Effect.{Does, RewritesFile, counts_of, image_saved, only};
@@ -60,10 +60,12 @@ fn counts_from(made: &Rewritten) -> Counts
 
 /// Rewrites the executable of a name, and saves its image under `new`.
 pub fn rewrite_file<S: Store>(alloc: Global, file: &str, new: &str, store: &mut S) -> Reply
-    ensures { (input output : Stream) →
+    ensures done { (input output : Stream) →
         let before = outside (stored (S.files store.old) (S.faults store.old)) input output in
         let after = outside (stored (S.files store.new) (S.faults store.new)) input output in
         IsDone (Some (Rewrite file.now new.now)) before after result.status (text_of result) }
+    ensures kept { keeps_files result.status ≡ true → S.files store.new ≡ S.files store.old }
+    ensures wanting { result.status ≡ Status.OutOfMemory → S.files store.new ≡ S.files store.old }
 {
     match load_rewritten(alloc, store, file) {
         Ok(made) => {

@@ -1,10 +1,10 @@
-ghost use Rattle.std.specs.Prelude.{◌≡◌, ◌≢◌, ◌≤◌, ◌⊎◌, ℕ, List, Option, Some, true, false, IfOk, IfErr};
+ghost use Rattle.std.specs.Prelude.{◌≡◌, ◌≢◌, ◌≤◌, ◌⊎◌, ℕ, List, Option, Some, true, false, IfOk, IfErr, IsNone};
 ghost use Rattle.std.specs.Option.{option_copied};
 ghost use Rattle.outside_ports.specs.Ports.{Files, Rose, Lacks};
 ghost use Rattle.elf_image.specs.Layout.{IsLoadable};
 ghost use Rattle.image_writer.specs.declared.image.Image.{Image as Shown};
 ghost use Rattle.rewriter.specs.Admission.{Admitted, admission_of};
-ghost use Rattle.rewrite_cli.specs.Status.{is_from_outside, is_refusal, comes_first};
+ghost use Rattle.rewrite_cli.specs.Status.{is_from_outside, is_refusal, comes_first, keeps_files};
 ghost use Rattle.rewrite_cli.specs.Words.{Run};
 ghost use Rattle.rewrite_cli.specs.Reading.{text_of};
 ghost use Rattle.rewrite_cli.specs.Effect.{Does, RunsFile, HoldsImage, only, status_of_end};
@@ -81,11 +81,14 @@ fn run_elf<S: Store, I: Source, O: Sink>(
     out: &mut O,
 ) -> Reply
     requires { IsLoadable elf.now }
-    ensures { let before = outside (stored (S.files store.old) (S.faults store.old))
+    ensures done { let before = outside (stored (S.files store.old) (S.faults store.old))
         (stream (I.rest input.old) (I.faults input.old)) (stream (O.written out.old) (O.faults out.old)) in
         let after = outside (stored (S.files store.new) (S.faults store.new))
         (stream (I.rest input.new) (I.faults input.new)) (stream (O.written out.new) (O.faults out.new)) in
         RunsTo elf.now fuel (option_copied dump.entry) before after result.status (text_of result) }
+    ensures kept { keeps_files result.status ≡ true → S.files store.new ≡ S.files store.old }
+    ensures wanting { result.status ≡ Status.OutOfMemory → S.files store.new ≡ S.files store.old }
+    ensures unsaved { IsNone dump.entry → result.status ≢ Status.StoreFault }
 {
     output_only_grows();
     let Ok(mut machine) = start(alloc, elf) else {
@@ -123,6 +126,10 @@ pub fn run_file<S: Store, I: Source, O: Sink>(
         (stream (I.rest input.new) (I.faults input.new)) (stream (O.written out.new) (O.faults out.new)) in
         IsDone (Some (Run file.now fuel (option_copied dump.entry))) before after result.status (text_of result) }
     ensures refused { comes_first result.status ≡ true → (input.new ≡ input.old) × (out.new ≡ out.old) }
+    ensures kept { keeps_files result.status ≡ true → S.files store.new ≡ S.files store.old }
+    ensures wanting { result.status ≡ Status.OutOfMemory → S.files store.new ≡ S.files store.old }
+    ensures unsaved { IsNone dump.entry → result.status ≡ Status.StoreFault
+        → (input.new ≡ input.old) × (out.new ≡ out.old) }
     ensures not_started { (m : Files) → S.files store.old ≡ Some m → ((image : Shown) → ¬ HoldsImage (m file.now) image)
         → (input.new ≡ input.old) × (out.new ≡ out.old) }
 {

@@ -17,7 +17,7 @@ returns-in-Loops-clause-done g c =
 pub returns-in-Rewrite-clause-done : goal.returns-in-Rewrite-clause-done
 returns-in-Rewrite-clause-done g c =
     rw c.in-Rewrite.is
-    (c.rewrite_file.ensures (stream (g.I.Source.rest c.args.input.now) (g.I.Source.faults c.args.input.now))
+    (c.rewrite_file.ensures.done (stream (g.I.Source.rest c.args.input.now) (g.I.Source.faults c.args.input.now))
     (stream (g.O.Sink.written c.args.out.now) (g.O.Sink.faults c.args.out.now)))
 
 pub returns-in-Run-clause-done : goal.returns-in-Run-clause-done

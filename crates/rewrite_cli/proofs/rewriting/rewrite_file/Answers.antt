@@ -6,8 +6,8 @@ use Rattle.rewrite_cli.proofs.Done.{refused_done}
 use Rattle.rewrite_cli.proofs.Commands.{rewritten_done, lacks_first}
 use Rattle.rewrite_cli.proofs.rewriting.rewrite_file.Goals as goal
 
-pub returns-in-Ok : goal.returns-in-Ok
-returns-in-Ok g c = λ input output.
+pub returns-in-Ok-clause-done : goal.returns-in-Ok-clause-done
+returns-in-Ok-clause-done g c = λ input output.
     rewritten_done c.args.file.now c.args.new.now c.as_slice-image.result.now _
     (record {
       files = g.S.Store.files c.load_rewritten.new.store;
@@ -21,8 +21,8 @@ returns-in-Ok g c = λ input output.
     c.save_and_reply.ensures.saved c.save_and_reply.ensures.stays c.save_and_reply.ensures.others
     c.save_and_reply.ensures.store_fault
 
-pub returns-in-Err : goal.returns-in-Err
-returns-in-Err g c = λ input output.
+pub returns-in-Err-clause-done : goal.returns-in-Err-clause-done
+returns-in-Err-clause-done g c = λ input output.
     refused_done (Some (Rewrite c.args.file.now c.args.new.now)) _ _ input output c.in-Err.status _ _
     c.reply_with.ensures.answer c.reply_with.ensures.text c.in-Err.ensures.kind
     (λ e. lacks_first _ _ _ _ (c.in-Err.ensures.failed e)) c.in-Err.ensures.same (λ e. cc)

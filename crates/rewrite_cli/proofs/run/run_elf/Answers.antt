@@ -9,8 +9,8 @@ use Rattle.rewrite_cli.specs.declared.status.Status.{Status}
 use Rattle.rewrite_cli.proofs.Running.{fault_runs, ended_runs, unbegun_runs, ended_as, no_port_fault, started_rose, inner_end}
 use Rattle.rewrite_cli.proofs.run.run_elf.Goals as goal
 
-pub returns-in-ReadFault : goal.returns-in-ReadFault
-returns-in-ReadFault g c =
+pub returns-in-ReadFault-clause-done : goal.returns-in-ReadFault-clause-done
+returns-in-ReadFault-clause-done g c =
     let answer = c.from_outside-in-ReadFault.ensures.status in
     let ended = ended_as c.run_counted-ran.new.m.ended SourceFault (sym c.in-ReadFault.is
     ∙ c.run_counted-ran.ensures.end) (λ e. cc) in
@@ -21,8 +21,8 @@ returns-in-ReadFault g c =
     (λ e. cc) (λ e. started_rose _ c.args.elf.now c.in-Ok.machine SourceFault c.in-Ok.ensures
     (c.run_counted-ran.ensures.keeps.read_fault ended)) (λ e. absurd (cc))
 
-pub returns-in-WriteFault : goal.returns-in-WriteFault
-returns-in-WriteFault g c =
+pub returns-in-WriteFault-clause-done : goal.returns-in-WriteFault-clause-done
+returns-in-WriteFault-clause-done g c =
     let answer = c.from_outside-in-WriteFault.ensures.status in
     let ended = ended_as c.run_counted-ran.new.m.ended SinkFault (sym c.in-WriteFault.is
     ∙ c.run_counted-ran.ensures.end) (λ e. cc) in
@@ -33,8 +33,8 @@ returns-in-WriteFault g c =
     (λ e. cc) (λ e. absurd (cc)) (λ e. started_rose _ c.args.elf.now c.in-Ok.machine SinkFault c.in-Ok.ensures
     (c.run_counted-ran.ensures.keeps.write_fault ended))
 
-pub returns : goal.returns
-returns g c =
+pub returns-clause-done : goal.returns-clause-done
+returns-clause-done g c =
     let end = c.run_counted-ran.result.end in
     let clean = no_port_fault c.run_counted-ran.new.m.ended end c.run_counted-ran.ensures.end
     c.in_default-end.not-ReadFault c.in_default-end.not-WriteFault in
