@@ -2,26 +2,27 @@
 use Rattle.std.proofs.Common.{◌≡◌, ◌≢◌, ◌≤◌, ◌++◌, ℕ, ◌⊎◌, inl, inr, List, [], ◌∷◌, Option, Some, None, Ok, Result, Bool, true, false, refl, ap, sym, subst, ◌∙◌, arith}
 use Rattle.std.specs.Prelude.{take}
 use Rattle.outside_ports.specs.Ports.{Files, Rose, Lacks, SameButIn}
-use Rattle.outside_ports.specs.Fakes.{File}
 use Rattle.elf_image.specs.declared.image.Elf.{Elf}
 use Rattle.elf_image.specs.declared.rules.ElfErr.{ElfErr}
 use Rattle.elf_image.specs.Reading.{reading_of}
 use Rattle.image_writer.specs.declared.image.Image.{Image}
 use Rattle.rewriter.specs.declared.rewriting.Rewritten.{Rewritten}
-use Rattle.rewriter.specs.Admission.{Admission, admission_of}
-use Rattle.serial_run.specs.Serial.{start_of}
-use Rattle.rewrite_cli.specs.Words.{Command, Run, Rewrite, Loops}
-use Rattle.rewrite_cli.specs.Listing.{Listing, Lines, TooMany, AreLines, IsListing}
-use Rattle.rewrite_cli.specs.Needs.{needs_of, LacksOne, SameBut}
+use Rattle.rewriter.specs.Admission.{Admission, Admitted, admission_of}
+use Rattle.serial_run.specs.Serial.{start_of, serial, ended}
+use Rattle.serial_run.specs.declared.machine.End.{End}
+use Rattle.serial_run.specs.declared.machine.End.TheVariants.{Exited as DidExit, Faulted as DidFault, Spent as DidSpend, ReadFault as SourceFault, WriteFault as SinkFault}
+use Rattle.rewrite_cli.specs.Words.{Run, Rewrite, Loops}
+use Rattle.rewrite_cli.specs.Listing.{Lines, TooMany, IsListing}
+use Rattle.rewrite_cli.specs.Needs.{LacksOne}
 use Rattle.rewrite_cli.specs.Counts.{no_counts}
 use Rattle.rewrite_cli.specs.Texts.{report_of}
 use Rattle.rewrite_cli.specs.Status.{is_from_outside, comes_first}
-use Rattle.rewrite_cli.specs.Effect.{Effect, Moment, IsMomentOf, Does, Passes, StartsRun, HoldsImage, HoldsLines, OfImage, OfReading, Runs, RunsFile, ListsFile, OfFile, load_limit, only, ran, listed, image_saved, counts_of}
-use Rattle.rewrite_cli.specs.Answer.{Stored, Stream, Outside, outside, stream, Tells, Appends, AreSaved, StayBut, IsMet, StopsAt, StopsBehind, Stops, HasCause, IsDone, RunsTo}
+use Rattle.rewrite_cli.specs.Effect.{Effect, IsMomentOf, Does, Passes, StartsRun, HoldsImage, HoldsLines, OfImage, OfReading, Runs, RunsFile, ListsFile, OfFile, load_limit, only, ran, status_of, listed, image_saved, counts_of}
+use Rattle.rewrite_cli.specs.Answer.{Stored, Stream, Outside, outside, Appends, AreSaved, StayBut, IsMet, Stops, HasCause, IsDone, RunsTo}
 use Rattle.rewrite_cli.specs.declared.status.Reason.TheVariants.{TooManyWords}
 use Rattle.rewrite_cli.specs.declared.status.Status.{Status}
 use Rattle.rewrite_cli.specs.declared.status.Status.TheVariants.{Done, Usage, Refused, OutOfMemory, WriteFault, StoreFault, ReadFault}
-use Rattle.rewrite_cli.proofs.Done.{appends_nothing, same_but, same_but_one, IsReady, IsEnd, ended_done}
+use Rattle.rewrite_cli.proofs.Done.{appends_nothing, same_but, same_but_one, ended_done}
 use Rattle.rewrite_cli.proofs.Loaded.{loaded}
 
 pub rose_since : (before between now : ℕ) → before ≤ between → Rose between now → Rose before now
@@ -245,3 +246,43 @@ run_done file fuel dump image store between now input output read written answer
           (holds m files) (r.stopped m xs (same ∙ files) told f);
       others = λ m files. r.others m (same ∙ files);
     }
+
+-- ---- no refusal of an image
+
+late_status : (ended : Option End) → comes_first (status_of ended) ≡ false
+late_status None = refl
+late_status (Some (DidExit code)) = refl
+late_status (Some (DidFault kind pc addr)) = refl
+late_status (Some DidSpend) = refl
+late_status (Some SourceFault) = refl
+late_status (Some SinkFault) = refl
+
+-- the image of a file that is not too long is run, so that the answer to it is no refusal
+pub run_answers : (content : Option (List ℕ)) (image : Image) (fuel : ℕ) (dump : Option (List ℕ)) (xs : List ℕ)
+    (status : Status) → HoldsImage content image
+    → OfFile load_limit (RunsFile fuel dump xs) xs content (only status xs) → comes_first status ≡ false
+run_answers content image fuel dump xs status h does = of_some (rw h.are at does)
+  where
+    of_admitted : OfImage (Runs fuel dump xs) xs (Admitted image) (only status xs) → comes_first status ≡ false
+    of_admitted e = ap (λ (v : Effect). comes_first v.status) e ∙ late_status (ended (serial fuel (start_of image.elf xs)))
+
+    of_some : OfFile load_limit (RunsFile fuel dump xs) xs (Some h.bytes) (only status xs) → comes_first status ≡ false
+    of_some (inl p) = let long = p.0 in let short = h.within in absurd (omega arith)
+    of_some (inr p) = of_admitted (subst (λ (v : Admission). OfImage (Runs fuel dump xs) xs v (only status xs)) h.admitted p.1)
+
+-- also where memory is wanted in its place
+pub kept_late : (status answer : Status) → (answer ≡ status) ⊎ (answer ≡ OutOfMemory)
+    → (is_from_outside status ≡ false → comes_first status ≡ false) → comes_first answer ≡ false
+kept_late status answer (inr e) late = ap comes_first e
+kept_late status answer (inl e) late = ap comes_first e ∙ go (is_from_outside status) refl
+  where
+    outside_late : (s : Status) → is_from_outside s ≡ true → comes_first s ≡ false
+    outside_late StoreFault t = refl
+    outside_late ReadFault t = refl
+    outside_late WriteFault t = refl
+    outside_late OutOfMemory t = refl
+    outside_late _ t = absurd (cc)
+
+    go : (b : Bool) → is_from_outside status ≡ b → comes_first status ≡ false
+    go true t = outside_late status t
+    go false f = late f

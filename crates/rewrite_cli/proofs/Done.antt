@@ -1,18 +1,17 @@
 -- What a command has done, from the answers of its steps.
-use Rattle.std.proofs.Common.{◌≡◌, ◌≢◌, ℕ, ◌++◌, ◌⊎◌, inl, inr, List, [], ◌∷◌, Option, Some, None, Bool, true, false, refl, ap, sym, subst, ◌∙◌, zero, suc}
+use Rattle.std.proofs.Common.{◌≡◌, ◌≢◌, ℕ, ◌⊎◌, inl, inr, List, [], ◌∷◌, Option, Some, None, true, false, refl, ap, sym, subst, ◌∙◌}
 use Rattle.std.proofs.lemmas.List.{append-nil}
-use Rattle.std.specs.Prelude.{take}
-use Rattle.outside_ports.specs.Ports.{Files, Rose, SameButIn, SavedIn}
+use Rattle.outside_ports.specs.Ports.{Files, Rose, SameButIn}
 use Rattle.rewrite_cli.specs.Words.{Command}
-use Rattle.rewrite_cli.specs.Needs.{needs_of, LacksOne, IsOther, SameBut}
-use Rattle.rewrite_cli.specs.Effect.{Effect, Does, StartsRun, Moment, Passes, only}
-use Rattle.rewrite_cli.specs.Answer.{Stored, Stream, Outside, outside, IsGiven, Tells, Appends, Leaves, AreSaved, StayBut, IsMet, IsUntouched, StopsBehind, Stops, HasCause, IsDone}
+use Rattle.rewrite_cli.specs.Needs.{needs_of, LacksOne, SameBut}
+use Rattle.rewrite_cli.specs.Effect.{Effect, Does, StartsRun, only}
+use Rattle.rewrite_cli.specs.Answer.{Stored, Stream, Outside, outside, IsGiven, Tells, Appends, Leaves, AreSaved, StayBut, IsMet, StopsBehind, HasCause, IsDone}
 use Rattle.rewrite_cli.specs.Counts.{no_counts}
-use Rattle.rewrite_cli.specs.Status.{is_from_outside, is_refusal, is_ending, keeps_files}
+use Rattle.rewrite_cli.specs.Status.{is_from_outside, is_refusal, comes_first, keeps_files}
 use Rattle.rewrite_cli.specs.Texts.{report_of}
 use Rattle.rewrite_cli.specs.declared.counts.Counts.{Counts}
 use Rattle.rewrite_cli.specs.declared.status.Status.{Status}
-use Rattle.rewrite_cli.specs.declared.status.Status.TheVariants.{Exited, Faulted, Usage, Refused, OutOfMemory, WriteFault, StoreFault, ReadFault}
+use Rattle.rewrite_cli.specs.declared.status.Status.TheVariants.{Refused, OutOfMemory, WriteFault, StoreFault}
 
 -- ---- what does not change
 
@@ -239,8 +238,7 @@ pub same_given : (answer given wanted : Status) (text : List ℕ) (before after 
 same_given answer given wanted text before after Same (inl g) same other e = same (sym g.0 ∙ e)
 same_given answer given wanted text before after Same (inr g) same other e = absurd (other (sym e ∙ g.0))
 
--- a file is saved of an ending alone
-pub ending_saves : (status : Status) → is_ending status ≡ true → keeps_files status ≡ false
-ending_saves (Exited code) e = refl
-ending_saves (Faulted kind pc addr) e = refl
-ending_saves _ e = absurd (cc)
+pub late_given : (answer given : Status) (text : List ℕ) (before after : Stream)
+    → IsGiven answer text before after given → comes_first answer ≡ false → comes_first given ≡ false
+late_given answer given text before after (inl g) late = ap comes_first g.0 ∙ late
+late_given answer given text before after (inr g) late = ap comes_first g.0

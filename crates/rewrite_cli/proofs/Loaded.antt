@@ -1,11 +1,8 @@
 -- What is done with files.
-use Rattle.std.proofs.Common.{◌≡◌, ◌≢◌, ◌<◌, ◌≤◌, ℕ, ◌⊎◌, inl, inr, List, [], ◌∷◌, length, Option, Some, None, Bool, true, false, refl, ap, sym, subst, ◌∙◌}
+use Rattle.std.proofs.Common.{◌≡◌, ◌≤◌, ℕ, inl, inr, List, [], ◌∷◌, length, Option, Some, None, Bool, true, false, refl, ap, subst}
 use Rattle.std.specs.Prelude.{if◌then◌else◌}
 use Rattle.rv64_decode.specs.Area.{Area}
 use Rattle.guest_memory.specs.Spans.{all_bytes}
-use Rattle.elf_image.specs.declared.image.Elf.{Elf}
-use Rattle.elf_image.specs.declared.rules.ElfErr.{ElfErr}
-use Rattle.elf_image.specs.Reading.{reading_of}
 use Rattle.outside_ports.specs.Ports.{Files, PassesLimit, SavedIn, SameButIn}
 use Rattle.outside_ports.specs.Fakes.{File}
 use Rattle.rewrite_cli.specs.Effect.{Effect, OfFile, only, dump_of}

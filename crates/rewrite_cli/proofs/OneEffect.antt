@@ -1,9 +1,8 @@
 -- A command has one effect at most.
-use Rattle.std.proofs.Common.{◌≡◌, ◌<◌, ◌≤◌, ℕ, ◌⊎◌, inl, inr, List, length, Option, Some, None, Ok, Err, Result, refl, ap, sym, subst, ◌∙◌, arith}
+use Rattle.std.proofs.Common.{◌≡◌, ℕ, inl, inr, List, Option, Some, None, Ok, Err, Result, ap, sym, subst, ◌∙◌, arith}
 use Rattle.elf_image.specs.declared.image.Elf.{Elf}
 use Rattle.elf_image.specs.declared.rules.ElfErr.{ElfErr}
 use Rattle.elf_image.specs.Reading.{reading_of}
-use Rattle.image_writer.specs.declared.image.Image.{Image}
 use Rattle.loop_data.specs.declared.graph.Graph.{Graph}
 use Rattle.loop_data.specs.declared.shape.LoopShape.{LoopShape}
 use Rattle.loop_data.specs.Graphs.{IsGraph}
@@ -11,10 +10,9 @@ use Rattle.loop_data.specs.Loops.{AreLoops}
 use Rattle.rewriter.specs.Admission.{Admission, Admitted, Bad, Refused as IsRefused, Differs, admission_of}
 use Rattle.rewriter.specs.Rewriting.{rewriting_of}
 use Rattle.rewriter.specs.declared.rewriting.Rewritten.{Rewritten}
-use Rattle.outside_ports.specs.Ports.{Files}
-use Rattle.rewrite_cli.specs.Words.{Command, Run, Rewrite, Loops}
+use Rattle.rewrite_cli.specs.Words.{Run, Rewrite, Loops}
 use Rattle.rewrite_cli.specs.Listing.{Listing, Lines, TooMany, AreLines, IsListing, lines_of}
-use Rattle.rewrite_cli.specs.Effect.{Effect, Does, OfFile, OfImage, OfRewriting, OfReading, RunsFile, Runs, RewritesFile, ListsFile, load_limit, listed}
+use Rattle.rewrite_cli.specs.Effect.{Effect, OfFile, OfImage, OfRewriting, OfReading, RunsFile, Runs, RewritesFile, ListsFile, load_limit, listed}
 use Rattle.rewrite_cli.specs.Answer.{OneEffect}
 
 abbrev OneGraph : Type 0

@@ -1,26 +1,23 @@
 -- What a run has done, from the run of its machine.
-use Rattle.std.proofs.Common.{◌≡◌, ◌≢◌, ◌≤◌, ◌<◌, ◌+◌, ◌++◌, ℕ, suc, ◌⊎◌, inl, inr, List, [], ◌∷◌, length, Option, Some, None, Bool, true, false, refl, ap, sym, subst, ◌∙◌, append_assoc, arith}
+use Rattle.std.proofs.Common.{◌≡◌, ◌≢◌, ◌≤◌, ◌++◌, ℕ, suc, ◌⊎◌, inl, inr, List, Option, Some, None, true, false, refl, ap, sym, subst, ◌∙◌, append_assoc, arith}
 use Rattle.std.proofs.lemmas.List.{append-nil, append_cancel_left}
-use Rattle.std.proofs.Math.Seq.{take-append-add}
 use Rattle.std.specs.Prelude.{take, unwrap_or, is_some, IsNone}
 use Rattle.outside_ports.specs.Ports.{Files, Rose}
 use Rattle.outside_ports.specs.Fakes.{File}
 use Rattle.elf_image.specs.declared.image.Elf.{Elf}
-use Rattle.guest_calls.specs.Faults.{SendsPart}
 use Rattle.serial_run.specs.declared.machine.Machine.{Machine}
 use Rattle.serial_run.specs.declared.machine.End.{End}
 use Rattle.serial_run.specs.declared.machine.End.TheVariants.{Exited as DidExit, Faulted as DidFault, Spent as DidSpend, ReadFault as SourceFault, WriteFault as SinkFault}
 use Rattle.serial_run.specs.Serial.{State, start_machine, start_of, ended, serial, executed_of}
-use Rattle.serial_run.specs.Runs.{Configuration, configuration_of, Runs, Keeps, WritesPart, StopsWithin, is_port_fault}
+use Rattle.serial_run.specs.Runs.{configuration_of, Runs, WritesPart, is_port_fault}
 use Rattle.rewrite_cli.specs.Counts.{of_steps, no_counts}
 use Rattle.rewrite_cli.specs.Texts.{report_of}
 use Rattle.rewrite_cli.specs.Needs.{SameBut, names_of}
 use Rattle.rewrite_cli.specs.Status.{is_from_outside, comes_first}
-use Rattle.rewrite_cli.specs.Effect.{Effect, Moment, IsMomentOf, ran, status_of, status_of_end, dump_of}
-use Rattle.rewrite_cli.specs.Answer.{Stored, Stream, Outside, outside, stream, AppendsPart, Appends, Leaves, AreSaved, StayBut, IsMet, StopsAt, StopsBehind, Stops, RunsTo}
-use Rattle.rewrite_cli.specs.declared.counts.Counts.{Counts}
+use Rattle.rewrite_cli.specs.Effect.{Moment, IsMomentOf, ran, status_of, status_of_end, dump_of}
+use Rattle.rewrite_cli.specs.Answer.{Stored, Stream, outside, Leaves, AreSaved, StayBut, StopsAt, RunsTo}
 use Rattle.rewrite_cli.specs.declared.status.Status.{Status}
-use Rattle.rewrite_cli.specs.declared.status.Status.TheVariants.{Usage, Refused, OutOfMemory, WriteFault, StoreFault, ReadFault}
+use Rattle.rewrite_cli.specs.declared.status.Status.TheVariants.{OutOfMemory, WriteFault, StoreFault, ReadFault}
 use Rattle.rewrite_cli.proofs.Done.{same_but, IsReady, ready_met, ready_behind, kept_saving}
 
 -- ---- endings

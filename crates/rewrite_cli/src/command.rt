@@ -31,6 +31,8 @@ fn perform<S: Store, I: Source, O: Sink>(
         let after = outside (stored (S.files store.new) (S.faults store.new))
         (stream (I.rest input.new) (I.faults input.new)) (stream (O.written out.new) (O.faults out.new)) in
         IsDone (command_shown command.entry) before after result.status (text_of result) }
+    ensures started { (m : Files) → S.files store.old ≡ Some m → StartsRun (command_shown command.entry) m
+        → comes_first result.status ≡ false }
     ensures kept { keeps_files result.status ≡ true → S.files store.new ≡ S.files store.old }
     ensures wanting { result.status ≡ Status.OutOfMemory → S.files store.new ≡ S.files store.old }
     ensures unsaved { (needs_of (command_shown command.entry)).saves ≡ [] → result.status ≡ Status.StoreFault
@@ -77,10 +79,13 @@ pub fn command<R: Threads + Sync, S: Store, I: Source, O: Sink, P: Sink, G: Gate
         (stream (P.written report.old) (P.faults report.old)) (stream (P.written report.new) (P.faults report.new))
         result }
 
-    // What is not touched: input and output after a refusal, and by what the store has under FILE.
+    // What is not touched: input and output after a refusal, and by what the store has under FILE, which also
+    // tells whether there is a refusal of a run.
     ensures refused { comes_first result ≡ true → (input.new ≡ input.old) × (out.new ≡ out.old) }
     ensures unread { (m : Files) → S.files store.old ≡ Some m → ¬ StartsRun (command_of (map string_bytes words.now)) m
         → input.new ≡ input.old }
+    ensures started { (m : Files) → S.files store.old ≡ Some m → StartsRun (command_of (map string_bytes words.now)) m
+        → comes_first result ≡ false }
     ensures unwritten { (m : Files) → S.files store.old ≡ Some m
         → ¬ StartsOutput (command_of (map string_bytes words.now)) m
         → out.new ≡ out.old }

@@ -130,6 +130,8 @@ pub fn run_file<S: Store, I: Source, O: Sink>(
     ensures wanting { result.status ≡ Status.OutOfMemory → S.files store.new ≡ S.files store.old }
     ensures unsaved { IsNone dump.entry → result.status ≡ Status.StoreFault
         → (input.new ≡ input.old) × (out.new ≡ out.old) }
+    ensures started { (m : Files) (image : Shown) → S.files store.old ≡ Some m → HoldsImage (m file.now) image
+        → comes_first result.status ≡ false }
     ensures not_started { (m : Files) → S.files store.old ≡ Some m → ((image : Shown) → ¬ HoldsImage (m file.now) image)
         → (input.new ≡ input.old) × (out.new ≡ out.old) }
 {

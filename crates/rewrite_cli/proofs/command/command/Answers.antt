@@ -1,8 +1,9 @@
-use Rattle.std.proofs.Common.{ap, ◌∙◌, Option}
+use Rattle.std.proofs.Common.{ap, ◌∙◌, sym, subst, Option}
 use Rattle.rewrite_cli.specs.Needs.{needs_of}
+use Rattle.rewrite_cli.specs.Effect.{StartsRun}
 use Rattle.rewrite_cli.specs.Reading.{text_of}
 use Rattle.rewrite_cli.specs.Words.{Command}
-use Rattle.rewrite_cli.proofs.Done.{kept_given, same_given}
+use Rattle.rewrite_cli.proofs.Done.{kept_given, same_given, late_given}
 use Rattle.rewrite_cli.proofs.command.command.Goals as goal
 
 pub returns-clause-answered : goal.returns-clause-answered
@@ -25,3 +26,9 @@ returns-clause-unsaved g c = λ none e.
     same_given _ _ _ _ _ _ _ c.give.ensures
     (c.perform-reply.ensures.unsaved (ap (λ (v : Option Command). (needs_of v).saves) c.command_from-command.ensures ∙ none))
     (λ v. cc) e
+
+pub returns-clause-started : goal.returns-clause-started
+returns-clause-started g c = λ m files starts.
+    late_given _ _ _ _ _ c.give.ensures
+    (c.perform-reply.ensures.started m files
+    (subst (λ (v : Option Command). StartsRun v m) (sym c.command_from-command.ensures) starts))

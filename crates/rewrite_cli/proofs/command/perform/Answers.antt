@@ -22,3 +22,7 @@ returns-in-Rewrite-clause-done g c =
 
 pub returns-in-Run-clause-done : goal.returns-in-Run-clause-done
 returns-in-Run-clause-done g c = rw c.in-Run.is c.run_file.ensures.done
+
+pub returns-in-Run-clause-started : goal.returns-in-Run-clause-started
+returns-in-Run-clause-started g c =
+    rw c.in-Run.is (λ m files starts. c.run_file.ensures.started m starts.0 files starts.1)

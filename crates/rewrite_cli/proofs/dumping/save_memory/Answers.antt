@@ -1,4 +1,4 @@
-use Rattle.std.proofs.Common.{◌∷◌, [], ap, sym, ◌∙◌}
+use Rattle.std.proofs.Common.{ap, sym, ◌∙◌}
 use Rattle.rewrite_cli.specs.Reading.{dump_shown}
 use Rattle.rewrite_cli.proofs.Loaded.{others_of_dump}
 use Rattle.rewrite_cli.proofs.dumping.save_memory.Goals as goal

@@ -1,4 +1,4 @@
-use Rattle.std.proofs.Common.{Some, subst}
+use Rattle.std.proofs.Common.{Some}
 use Rattle.std.specs.Prelude.{string_bytes}
 use Rattle.rewrite_cli.specs.Words.{Loops}
 use Rattle.rewrite_cli.proofs.Done.{refused_done}

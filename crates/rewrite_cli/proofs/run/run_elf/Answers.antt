@@ -6,7 +6,7 @@ use Rattle.rewrite_cli.specs.Counts.{no_counts}
 use Rattle.rewrite_cli.specs.Status.{is_from_outside, comes_first}
 use Rattle.rewrite_cli.specs.Texts.{report_of}
 use Rattle.rewrite_cli.specs.declared.status.Status.{Status}
-use Rattle.rewrite_cli.proofs.Running.{fault_runs, ended_runs, unbegun_runs, ended_as, no_port_fault, started_rose, inner_end}
+use Rattle.rewrite_cli.proofs.Running.{fault_runs, ended_runs, ended_as, no_port_fault, started_rose, inner_end}
 use Rattle.rewrite_cli.proofs.run.run_elf.Goals as goal
 
 pub returns-in-ReadFault-clause-done : goal.returns-in-ReadFault-clause-done

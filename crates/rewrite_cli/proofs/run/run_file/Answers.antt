@@ -1,9 +1,9 @@
-use Rattle.std.proofs.Common.{Some}
+use Rattle.std.proofs.Common.{Some, []}
 use Rattle.std.specs.Option.{option_copied}
 use Rattle.rewrite_cli.specs.Words.{Run}
 use Rattle.rewrite_cli.specs.Answer.{stored}
 use Rattle.rewrite_cli.proofs.Done.{refused_done}
-use Rattle.rewrite_cli.proofs.Commands.{run_done, lacks_first}
+use Rattle.rewrite_cli.proofs.Commands.{run_done, lacks_first, run_answers, kept_late}
 use Rattle.rewrite_cli.proofs.run.run_file.Goals as goal
 
 pub returns-in-Ok-clause-done : goal.returns-in-Ok-clause-done
@@ -21,3 +21,12 @@ returns-in-Err-clause-done g c =
     c.reply_with.ensures.answer c.reply_with.ensures.text c.in-Err.ensures.kind
     (λ e. lacks_first _ _ _ _ (c.in-Err.ensures.failed e)) c.in-Err.ensures.same (λ e. cc)
     (λ f m files xs. c.in-Err.ensures.refused f m files c.args.fuel (option_copied c.args.dump) xs)
+
+pub returns-in-Ok-clause-started : goal.returns-in-Ok-clause-started
+returns-in-Ok-clause-started g c = λ m image files holds. c.run_elf.ensures.done.late
+
+pub returns-in-Err-clause-started : goal.returns-in-Err-clause-started
+returns-in-Err-clause-started g c = λ m image files holds.
+    kept_late c.in-Err.status _ c.reply_with.ensures.answer
+    (λ f. run_answers _ image c.args.fuel (option_copied c.args.dump) [] c.in-Err.status holds
+    (c.in-Err.ensures.refused f m files c.args.fuel (option_copied c.args.dump) []))
