@@ -27,7 +27,10 @@ impl Calls {
     pub(crate) fn begin(&mut self) -> Result<(), Failed>
         ensures failed { IsErr result ↔ Contains self.old.fails.items self.old.number }
         ensures ok { OnOk result (self.new ≡ record self.old { number = next_number self.old.number }) }
-        ensures err { OnErr result (self.new ≡ record self.old { number = next_number self.old.number; faults = next_number self.old.faults }) }
+        ensures err { OnErr result (self.new ≡ record self.old {
+          number = next_number self.old.number;
+          faults = next_number self.old.faults;
+        }) }
         ensures never_falls { self.old.faults ≤ self.new.faults }
     {
         let number = self.number;

@@ -69,7 +69,8 @@ pub(crate) fn set(
 ) -> Result<(), AllocError>
     ensures ok { OnOk result (files.new.items ≡ with_file files.old.items name.now bytes.now) }
     ensures err { OnErr result (files.new.items ≡ files.old.items) }
-    ensures saved { OnOk result (SavedIn (files_of files.old.items) (Some (files_of files.new.items)) name.now bytes.now) }
+    ensures saved { OnOk result (SavedIn (files_of files.old.items) (Some (files_of files.new.items))
+        name.now bytes.now) }
 {
     let bytes = Vec::from_slice(alloc, bytes)?;
     match place_of(files.as_slice(), name) {

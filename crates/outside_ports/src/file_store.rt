@@ -47,7 +47,8 @@ impl<R: Files> Store for FileStore<'_, R> {
 
         ensures content { IfOk result (λ v. (m : Files) → None ≡ Some m → m name.now ≡ Some v.items) }
         ensures within { IfOk result (λ v. length v.items ≤ limit) }
-        ensures too_long { IsErrOf result StoreErr.TooLong → (m : Files) → None ≡ Some m → PassesLimit (m name.now) limit }
+        ensures too_long { IsErrOf result StoreErr.TooLong → (m : Files) → None ≡ Some m
+            → PassesLimit (m name.now) limit }
         ensures failed { IsErrOf result StoreErr.Failed → Rose self.old self.new ⊎ Lacks None name.now }
         ensures never_falls { self.old ≤ self.new }
     {
@@ -60,15 +61,17 @@ impl<R: Files> Store for FileStore<'_, R> {
 
     /// Makes the file or replaces what is in it, as a whole: the bytes are written to a file beside it,
     /// which then takes its name, so that after a fault the old file is as it was and nothing else is
-    /// left. A file that is replaced keeps its mode, and its owner where that may be kept. A symbolic link
-    /// is followed. What is no regular file, as a device or a pipe, is written as it is.
+    /// left. A file that is replaced keeps its mode, and its owner where that may be kept; where it may
+    /// not, the mode loses its set-user-ID and set-group-ID bits. A symbolic link is followed. What is no
+    /// regular file, as a device or a pipe, is written as it is.
     fn save(&mut self, alloc: Global, name: &str, bytes: &[u8]) -> Result<(), SaveErr>
         ensures fault { result ≡ Err SaveErr.Failed → self.new ≡ next_number self.old }
         ensures no_fault { result ≢ Err SaveErr.Failed → self.new ≡ self.old }
 
         ensures saved { OnOk result ((m : Files) → None ≡ Some m → SavedIn m None name.now bytes.now) }
         ensures failed { IsErrOf result SaveErr.Failed → Rose self.old self.new }
-        ensures others { IsErrOf result SaveErr.Failed → (m : Files) → None ≡ Some m → SameButIn m None name.now }
+        ensures others { IsErrOf result SaveErr.Failed → (m : Files) → None ≡ Some m
+            → SameButIn m None name.now }
         ensures never_falls { self.old ≤ self.new }
     {
         let answer = save_file(self.rt, alloc, name, bytes);

@@ -22,7 +22,13 @@ impl Model for MemSink {
 
     ghost Value = { SinkState };
 
-    ghost view = { λ s. record { written = s.bytes.items; room = s.room; fails = s.calls.fails.items; calls = s.calls.number; faults = s.calls.faults } };
+    ghost view = { λ s. record {
+      written = s.bytes.items;
+      room = s.room;
+      fails = s.calls.fails.items;
+      calls = s.calls.number;
+      faults = s.calls.faults;
+    } };
 
     ghost invariant = { λ s. vec_len s.bytes + s.room ≤ vec_capacity s.bytes };
 }
@@ -31,7 +37,13 @@ impl MemSink {
     /// An empty sink with room for `room` bytes, whose memory is taken here and never later. The
     /// calls whose numbers are in `fails` fail.
     pub fn new(alloc: Global, room: usize, fails: Vec<u64>) -> Result<MemSink, AllocError>
-        ensures { IfOk result (λ s. s ≡ record { written = []; room = room; fails = fails.items; calls = 0; faults = 0 }) }
+        ensures { IfOk result (λ s. s ≡ record {
+          written = [];
+          room = room;
+          fails = fails.items;
+          calls = 0;
+          faults = 0;
+        }) }
     {
         Ok(MemSink {
             bytes: Vec::with_capacity(alloc, room)?,
@@ -68,10 +80,18 @@ impl Sink for MemSink {
     /// Appends as much of `piece` as the room left holds, and takes no memory. A call that fails
     /// changes nothing but the number of calls and the count of faults.
     fn write(&mut self, piece: &[u8]) -> Result<usize, Failed>
-        ensures fails { IsErr result ↔ (Contains self.old.fails self.old.calls ⊎ ((self.old.room ≡ 0) × (0 < length piece.now))) }
-        ensures err { OnErr result (self.new ≡ record self.old { calls = next_number self.old.calls; faults = next_number self.old.faults }) }
+        ensures fails { IsErr result ↔ (Contains self.old.fails self.old.calls
+            ⊎ ((self.old.room ≡ 0) × (0 < length piece.now))) }
+        ensures err { OnErr result (self.new ≡ record self.old {
+          calls = next_number self.old.calls;
+          faults = next_number self.old.faults;
+        }) }
         ensures takes { IfOk result (λ k. k ≡ min self.old.room (length piece.now)) }
-        ensures ok { IfOk result (λ k. self.new ≡ record self.old { written = self.old.written ++ take k piece.now; room = self.old.room - k; calls = next_number self.old.calls }) }
+        ensures ok { IfOk result (λ k. self.new ≡ record self.old {
+          written = self.old.written ++ take k piece.now;
+          room = self.old.room - k;
+          calls = next_number self.old.calls;
+        }) }
 
         ensures count { IfOk result (λ k. k ≤ length piece.now) }
         ensures progress { IfOk result (λ k. 0 < length piece.now → 0 < k) }

@@ -22,7 +22,13 @@ impl Model for MemSource {
 
     ghost Value = { SourceState };
 
-    ghost view = { λ s. record { rest = drop s.at s.bytes.items; most = s.most; fails = s.calls.fails.items; calls = s.calls.number; faults = s.calls.faults } };
+    ghost view = { λ s. record {
+      rest = drop s.at s.bytes.items;
+      most = s.most;
+      fails = s.calls.fails.items;
+      calls = s.calls.number;
+      faults = s.calls.faults;
+    } };
 
     ghost invariant = { λ s. (s.at ≤ length s.bytes.items) × (0 < s.most) };
 }
@@ -59,11 +65,17 @@ impl Source for MemSource {
     /// nothing but the number of calls and the count of faults.
     fn read(&mut self, buf: &mut [u8]) -> Result<usize, Failed>
         ensures fails { IsErr result ↔ Contains self.old.fails self.old.calls }
-        ensures err { OnErr result (self.new ≡ record self.old { calls = next_number self.old.calls; faults = next_number self.old.faults }) }
+        ensures err { OnErr result (self.new ≡ record self.old {
+          calls = next_number self.old.calls;
+          faults = next_number self.old.faults;
+        }) }
         ensures err_buffer { OnErr result (buf.new ≡ buf.old) }
         ensures gives { IfOk result (λ k. k ≡ min self.old.most (min (length buf.old) (length self.old.rest))) }
         ensures buffer { IfOk result (λ k. buf.new ≡ take k self.old.rest ++ drop k buf.old) }
-        ensures ok { IfOk result (λ k. self.new ≡ record self.old { rest = drop k self.old.rest; calls = next_number self.old.calls }) }
+        ensures ok { IfOk result (λ k. self.new ≡ record self.old {
+          rest = drop k self.old.rest;
+          calls = next_number self.old.calls;
+        }) }
 
         ensures count { IfOk result (λ k. k ≤ length buf.new) }
         ensures moved { IfOk result (λ k. Moved self.old.rest (Some self.new.rest) k buf.new) }

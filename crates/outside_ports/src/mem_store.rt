@@ -22,7 +22,12 @@ impl Model for MemStore {
 
     ghost Value = { StoreState };
 
-    ghost view = { λ s. record { entries = s.entries.items; fails = s.calls.fails.items; calls = s.calls.number; faults = s.calls.faults } };
+    ghost view = { λ s. record {
+      entries = s.entries.items;
+      fails = s.calls.fails.items;
+      calls = s.calls.number;
+      faults = s.calls.faults;
+    } };
 }
 
 impl MemStore {
@@ -48,9 +53,12 @@ impl MemStore {
     /// Sets a name to these bytes, as the world outside may do between two calls: it has no number
     /// among the calls. Where there is no memory nothing is changed.
     pub fn put(&mut self, name: &str, bytes: &[u8]) -> Result<(), AllocError>
-        ensures ok { OnOk result (self.new ≡ record self.old { entries = with_file self.old.entries name.now bytes.now }) }
+        ensures ok { OnOk result (self.new ≡ record self.old {
+          entries = with_file self.old.entries name.now bytes.now;
+        }) }
         ensures err { OnErr result (self.new ≡ self.old) }
-        ensures saved { OnOk result (SavedIn (files_of self.old.entries) (Some (files_of self.new.entries)) name.now bytes.now) }
+        ensures saved { OnOk result (SavedIn (files_of self.old.entries) (Some (files_of self.new.entries))
+            name.now bytes.now) }
     {
         set(&mut self.entries, self.alloc, name, bytes)
     }
@@ -64,15 +72,22 @@ impl Store for MemStore {
     /// A load changes nothing but the number of calls and, where its number is among those that
     /// fail, the count of faults. A missing name raises no count.
     fn load(&mut self, alloc: Global, name: &str, limit: u64) -> Result<Vec<u8>, StoreErr>
-        ensures fails { IsErrOf result StoreErr.Failed ↔ (Contains self.old.fails self.old.calls ⊎ (files_of self.old.entries name.now ≡ None)) }
-        ensures passes { IsErrOf result StoreErr.TooLong ↔ ((¬ Contains self.old.fails self.old.calls) × PassesLimit (files_of self.old.entries name.now) limit) }
-        ensures after_fault { Contains self.old.fails self.old.calls → self.new ≡ record self.old { calls = next_number self.old.calls; faults = next_number self.old.faults } }
-        ensures after { ¬ Contains self.old.fails self.old.calls → self.new ≡ record self.old { calls = next_number self.old.calls } }
+        ensures fails { IsErrOf result StoreErr.Failed ↔ (Contains self.old.fails self.old.calls
+            ⊎ (files_of self.old.entries name.now ≡ None)) }
+        ensures passes { IsErrOf result StoreErr.TooLong ↔ ((¬ Contains self.old.fails self.old.calls)
+            × PassesLimit (files_of self.old.entries name.now) limit) }
+        ensures after_fault { Contains self.old.fails self.old.calls → self.new ≡ record self.old {
+          calls = next_number self.old.calls;
+          faults = next_number self.old.faults;
+        } }
+        ensures after { ¬ Contains self.old.fails self.old.calls
+            → self.new ≡ record self.old { calls = next_number self.old.calls } }
 
         ensures content { IfOk result (λ v. files_of self.old.entries name.now ≡ Some v.items) }
         ensures within { IfOk result (λ v. length v.items ≤ limit) }
         ensures too_long { IsErrOf result StoreErr.TooLong → PassesLimit (files_of self.old.entries name.now) limit }
-        ensures failed { IsErrOf result StoreErr.Failed → Rose self.old.faults self.new.faults ⊎ Lacks (Some (files_of self.old.entries)) name.now }
+        ensures failed { IsErrOf result StoreErr.Failed
+            → Rose self.old.faults self.new.faults ⊎ Lacks (Some (files_of self.old.entries)) name.now }
         ensures same { Some (files_of self.new.entries) ≡ Some (files_of self.old.entries) }
         ensures never_falls { self.old.faults ≤ self.new.faults }
     {
@@ -94,14 +109,24 @@ impl Store for MemStore {
     /// A save that fails, or has no memory, changes no file.
     fn save(&mut self, alloc: Global, name: &str, bytes: &[u8]) -> Result<(), SaveErr>
         ensures fails { IsErrOf result SaveErr.Failed ↔ Contains self.old.fails self.old.calls }
-        ensures ok { OnOk result (self.new ≡ record self.old { entries = with_file self.old.entries name.now bytes.now; calls = next_number self.old.calls }) }
-        ensures after_fault { IsErrOf result SaveErr.Failed → self.new ≡ record self.old { calls = next_number self.old.calls; faults = next_number self.old.faults } }
-        ensures no_memory { IsErrOf result SaveErr.OutOfMemory → self.new ≡ record self.old { calls = next_number self.old.calls } }
+        ensures ok { OnOk result (self.new ≡ record self.old {
+          entries = with_file self.old.entries name.now bytes.now;
+          calls = next_number self.old.calls;
+        }) }
+        ensures after_fault { IsErrOf result SaveErr.Failed → self.new ≡ record self.old {
+          calls = next_number self.old.calls;
+          faults = next_number self.old.faults;
+        } }
+        ensures no_memory { IsErrOf result SaveErr.OutOfMemory
+            → self.new ≡ record self.old { calls = next_number self.old.calls } }
 
-        ensures saved { OnOk result (SavedIn (files_of self.old.entries) (Some (files_of self.new.entries)) name.now bytes.now) }
+        ensures saved { OnOk result (SavedIn (files_of self.old.entries) (Some (files_of self.new.entries))
+            name.now bytes.now) }
         ensures failed { IsErrOf result SaveErr.Failed → Rose self.old.faults self.new.faults }
-        ensures others { IsErrOf result SaveErr.Failed → SameButIn (files_of self.old.entries) (Some (files_of self.new.entries)) name.now }
-        ensures out_of_memory { IsErrOf result SaveErr.OutOfMemory → Some (files_of self.new.entries) ≡ Some (files_of self.old.entries) }
+        ensures others { IsErrOf result SaveErr.Failed
+            → SameButIn (files_of self.old.entries) (Some (files_of self.new.entries)) name.now }
+        ensures out_of_memory { IsErrOf result SaveErr.OutOfMemory
+            → Some (files_of self.new.entries) ≡ Some (files_of self.old.entries) }
         ensures never_falls { self.old.faults ≤ self.new.faults }
     {
         if self.calls.begin().is_err() {

@@ -39,7 +39,8 @@ pub trait Source {
     /// buffer that has room is the end.
     fn read(&mut self, buf: &mut [u8]) -> Result<usize, Failed>
         ensures count { IfOk result (λ k. k ≤ length buf.new) }
-        ensures moved { IfOk result (λ k. (xs : List ℕ) → rest self.old ≡ Some xs → Moved xs (rest self.new) k buf.new) }
+        ensures moved { IfOk result (λ k. (xs : List ℕ) → rest self.old ≡ Some xs
+            → Moved xs (rest self.new) k buf.new) }
         ensures failed { OnErr result (Rose (faults self.old) (faults self.new)) }
         ensures never_falls { faults self.old ≤ faults self.new };
 }
@@ -57,9 +58,11 @@ pub trait Sink {
     fn write(&mut self, piece: &[u8]) -> Result<usize, Failed>
         ensures count { IfOk result (λ k. k ≤ length piece.now) }
         ensures progress { IfOk result (λ k. 0 < length piece.now → 0 < k) }
-        ensures appended { IfOk result (λ k. (xs : List ℕ) → written self.old ≡ Some xs → written self.new ≡ Some (xs ++ take k piece.now)) }
+        ensures appended { IfOk result (λ k. (xs : List ℕ) → written self.old ≡ Some xs
+            → written self.new ≡ Some (xs ++ take k piece.now)) }
         // A prefix of the piece, which may be empty, and nothing else.
-        ensures prefix { OnErr result ((xs : List ℕ) → written self.old ≡ Some xs → (k : ℕ) × (written self.new ≡ Some (xs ++ take k piece.now))) }
+        ensures prefix { OnErr result ((xs : List ℕ) → written self.old ≡ Some xs
+            → (k : ℕ) × (written self.new ≡ Some (xs ++ take k piece.now))) }
         ensures failed { OnErr result (Rose (faults self.old) (faults self.new)) }
         ensures never_falls { faults self.old ≤ faults self.new };
 }
@@ -75,18 +78,23 @@ pub trait Store {
 
     /// All bytes under `name`, of which there are at most `limit`.
     fn load(&mut self, alloc: Global, name: &str, limit: u64) -> Result<Vec<u8>, StoreErr>
-        ensures content { IfOk result (λ v. (m : Files) → files self.old ≡ Some m → m name.now ≡ Some v.items) }
+        ensures content { IfOk result (λ v. (m : Files) → files self.old ≡ Some m
+            → m name.now ≡ Some v.items) }
         ensures within { IfOk result (λ v. length v.items ≤ limit) }
-        ensures too_long { IsErrOf result StoreErr.TooLong → (m : Files) → files self.old ≡ Some m → PassesLimit (m name.now) limit }
-        ensures failed { IsErrOf result StoreErr.Failed → Rose (faults self.old) (faults self.new) ⊎ Lacks (files self.old) name.now }
+        ensures too_long { IsErrOf result StoreErr.TooLong → (m : Files) → files self.old ≡ Some m
+            → PassesLimit (m name.now) limit }
+        ensures failed { IsErrOf result StoreErr.Failed
+            → Rose (faults self.old) (faults self.new) ⊎ Lacks (files self.old) name.now }
         ensures same { files self.new ≡ files self.old }
         ensures never_falls { faults self.old ≤ faults self.new };
 
     /// Sets `name` to these bytes.
     fn save(&mut self, alloc: Global, name: &str, bytes: &[u8]) -> Result<(), SaveErr>
-        ensures saved { OnOk result ((m : Files) → files self.old ≡ Some m → SavedIn m (files self.new) name.now bytes.now) }
+        ensures saved { OnOk result ((m : Files) → files self.old ≡ Some m
+            → SavedIn m (files self.new) name.now bytes.now) }
         ensures failed { IsErrOf result SaveErr.Failed → Rose (faults self.old) (faults self.new) }
-        ensures others { IsErrOf result SaveErr.Failed → (m : Files) → files self.old ≡ Some m → SameButIn m (files self.new) name.now }
+        ensures others { IsErrOf result SaveErr.Failed → (m : Files) → files self.old ≡ Some m
+            → SameButIn m (files self.new) name.now }
         ensures out_of_memory { IsErrOf result SaveErr.OutOfMemory → files self.new ≡ files self.old }
         ensures never_falls { faults self.old ≤ faults self.new };
 }

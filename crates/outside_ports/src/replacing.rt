@@ -1,8 +1,10 @@
+ghost use Rattle.std.specs.Prelude.{◌≡◌, bit_and, if◌then◌else◌};
+
 use crate::ports::SaveErr;
 use std::alloc::Global;
-use std::fs::{self, Metadata, OpenFile, OpenOptions};
+use std::fs::{self, Metadata, OpenFile, OpenOptions, Permissions};
 use std::io::{self, Error, ErrorKind, Write};
-use std::os::unix::fs::{MetadataExt, OpenOptionsExt, chown};
+use std::os::unix::fs::{MetadataExt, OpenOptionsExt, PermissionsExt, chown};
 use std::path::PathBuf;
 use std::rt::Files;
 
@@ -17,6 +19,10 @@ const NEW_MODE: u32 = 0o666;
 
 /// The mode, until all bytes are written, of a file that replaces another.
 const OWN_MODE: u32 = 0o600;
+
+/// The bits of a mode with which a program runs as the owner or the group of its file: set-user-ID and
+/// set-group-ID.
+const SET_ID_BITS: u32 = 0o6000;
 
 /// Gives the file of this name these bytes. A file of its own in the same folder is written, and takes
 /// the name last, so that the old file stays whole where anything fails before. A symbolic link is
@@ -126,9 +132,18 @@ fn write_and_rename<R: Files>(
     file.write_all(bytes)?;
     if let Some(old) = old {
         // Nobody but root may give a file away; it is the user's own then.
-        let _ = chown(rt, beside.as_path(), Some(old.uid()), Some(old.gid()));
-        file.set_permissions(old.permissions())?;
+        let owned = chown(rt, beside.as_path(), Some(old.uid()), Some(old.gid())).is_ok();
+        let mode = replacing_mode(old.permissions().mode(), owned);
+        file.set_permissions(Permissions::from_mode(mode))?;
     }
     file.sync_all()?;
     fs::rename(rt, beside.as_path(), path.as_path())
+}
+
+/// The mode of a file that replaces one of this mode: the same, but that a program in it runs as nobody
+/// but its caller where the file is not `owned` by the old one's owner and group.
+pub(crate) fn replacing_mode(mode: u32, owned: bool) -> u32
+    ensures { result ≡ (if owned then mode else bit_and mode 0xFFFF_F3FF) }
+{
+    if owned { mode } else { mode & !SET_ID_BITS }
 }
