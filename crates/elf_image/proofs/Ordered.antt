@@ -8,7 +8,7 @@ use Rattle.elf_image.specs.declared.image.Segment.{Segment}
 use Rattle.elf_image.specs.declared.rules.HeaderRule.TheVariants.{SegmentSize, SegmentCut, WritableCode, Range}
 use Rattle.elf_image.specs.Header.{file_header, program_headers, HasHeaders}
 use Rattle.elf_image.specs.Layout.{LieFrom, IsLoadable, load_end, rounded_low, rounded_end, rounded_length, is_writable, is_executable, in_code, total_length}
-use Rattle.elf_image.specs.Rules.{breaks, makes_area, area_bytes, range_low, range_end, meet, holds_code, in_executable}
+use Rattle.elf_image.specs.Rules.{breaks, makes_area, place_of, places_of, range_low, range_end, meet}
 use Rattle.elf_image.specs.Reading.{segment_of, with_segment, segments_from, segments_of, elf_of}
 use Rattle.elf_image.proofs.Passed.{IsWhole, PassesRules, NoneHas, Apart, none_has, is_below, is_whole, is_sized, is_strict, length-headers}
 
@@ -140,24 +140,27 @@ few_from bytes i (h ∷ rest) = go (makes_area h) (few_from bytes (suc i) rest)
     go true later = let e = length-placed (segment_of bytes i h) (segments_from bytes (suc i) rest) in omega arith
     go false later = omega arith
 
-total_from : (bytes : List ℕ) (i : ℕ) (hs : List ProgramHeader) → total_length (segments_from bytes i hs) ≡ area_bytes hs
+total_from : (bytes : List ℕ) (i : ℕ) (hs : List ProgramHeader) → total_length (segments_from bytes i hs) ≡ total_length (places_of hs)
 total_from bytes i [] = refl
 total_from bytes i (h ∷ rest) = go (makes_area h) (total_from bytes (suc i) rest)
   where
-    go : (b : Bool) → total_length (segments_from bytes (suc i) rest) ≡ area_bytes rest → total_length (if b then with_segment (segment_of bytes i h) (segments_from bytes (suc i) rest) else segments_from bytes (suc i) rest) ≡ (if b then range_end h - range_low h + area_bytes rest else area_bytes rest)
+    go : (b : Bool) → total_length (segments_from bytes (suc i) rest) ≡ total_length (places_of rest)
+        → total_length (if b then with_segment (segment_of bytes i h) (segments_from bytes (suc i) rest) else segments_from bytes (suc i) rest)
+        ≡ total_length (if b then place_of h ∷ places_of rest else places_of rest)
     go true later = total-placed (segment_of bytes i h) (segments_from bytes (suc i) rest) ∙ ap (λ (n : ℕ). range_end h - range_low h + n) later
     go false later = later
 
-code_from : (bytes : List ℕ) (i : ℕ) (hs : List ProgramHeader) (addr : ℕ) → in_code (segments_from bytes i hs) addr ≡ in_executable hs addr
+code_from : (bytes : List ℕ) (i : ℕ) (hs : List ProgramHeader) (addr : ℕ) → in_code (segments_from bytes i hs) addr ≡ in_code (places_of hs) addr
 code_from bytes i [] addr = refl
-code_from bytes i (h ∷ rest) addr = go (makes_area h) refl (code_from bytes (suc i) rest addr)
+code_from bytes i (h ∷ rest) addr = go (makes_area h) (code_from bytes (suc i) rest addr)
   where
-    go : (b : Bool) → makes_area h ≡ b → in_code (segments_from bytes (suc i) rest) addr ≡ in_executable rest addr
-        → in_code (if b then with_segment (segment_of bytes i h) (segments_from bytes (suc i) rest) else segments_from bytes (suc i) rest) addr ≡ (holds_code h addr || in_executable rest addr)
-    go true m later =
+    go : (b : Bool) → in_code (segments_from bytes (suc i) rest) addr ≡ in_code (places_of rest) addr
+        → in_code (if b then with_segment (segment_of bytes i h) (segments_from bytes (suc i) rest) else segments_from bytes (suc i) rest) addr
+        ≡ in_code (if b then place_of h ∷ places_of rest else places_of rest) addr
+    go true later =
         code-placed (segment_of bytes i h) (segments_from bytes (suc i) rest) addr
-        ∙ rw (m) (ap (λ (b : Bool). h.flags % 2 == 1 && (nat_le (range_low h) addr && nat_lt addr (range_end h)) || b) later)
-    go false m later = later ∙ rw (m) refl
+        ∙ ap (λ (b : Bool). h.flags % 2 == 1 && (nat_le (range_low h) addr && nat_lt addr (range_end h)) || b) later
+    go false later = later
 
 -- ---- the executable
 
@@ -177,7 +180,7 @@ is_loadable bytes w p =
     }
 
 -- an executable area needs a header
-some_header : (hs : List ProgramHeader) (addr : ℕ) → in_executable hs addr ≡ true → 1 ≤ length hs
+some_header : (hs : List ProgramHeader) (addr : ℕ) → in_code (places_of hs) addr ≡ true → 1 ≤ length hs
 some_header [] addr h = absurd (cc)
 some_header (h ∷ rest) addr e = omega arith
 

@@ -7,8 +7,8 @@ use Rattle.elf_image.specs.declared.rules.HeaderRule.{HeaderRule}
 use Rattle.elf_image.specs.declared.rules.HeaderRule.TheVariants.{SegmentSize, SegmentCut, WritableCode, Range}
 use Rattle.elf_image.specs.declared.header.ProgramHeader.{ProgramHeader}
 use Rattle.elf_image.specs.Header.{is_elf, file_header, program_headers, program_headers_from}
-use Rattle.elf_image.specs.Layout.{load_end}
-use Rattle.elf_image.specs.Rules.{unless, first_of, file_rules, file_refusal, table_rules, breaks, makes_area, first_place, refused_at, headers_rules, headers_refusal, area_bytes, range_low, range_end, meet, overlap_from, overlap_or, program_rules, program_refusal, in_executable}
+use Rattle.elf_image.specs.Layout.{load_end, total_length, in_code}
+use Rattle.elf_image.specs.Rules.{unless, first_of, file_rules, file_refusal, table_rules, breaks, makes_area, first_place, refused_at, headers_rules, headers_refusal, place_of, places_of, range_low, range_end, meet, overlap_from, overlap_or, program_rules, program_refusal}
 use Rattle.elf_image.specs.declared.rules.ElfErr.TheVariants.{OutOfMemory}
 use Rattle.elf_image.specs.declared.image.Elf.{Elf}
 use Rattle.elf_image.specs.Reading.{refusal_of, reading_of, elf_of, IsReading}
@@ -134,11 +134,13 @@ unfolding breaks
 is_strict size h b m = and_false _ _ b (load_of_area h m)
 
 -- how many bytes the areas have at most
-pub area_bytes-le : (size : ℕ) (hs : List ProgramHeader) → NoneHas (breaks Range size) hs → area_bytes hs ≤ length hs * 0x5000_0010
-area_bytes-le size [] all = omega arith
-area_bytes-le size (h ∷ rest) all = go (makes_area h) refl (area_bytes-le size rest all.1)
+pub total-le : (size : ℕ) (hs : List ProgramHeader) → NoneHas (breaks Range size) hs
+    → total_length (places_of hs) ≤ length hs * 0x5000_0010
+total-le size [] all = omega arith
+total-le size (h ∷ rest) all = go (makes_area h) refl (total-le size rest all.1)
   where
-    go : (b : Bool) → makes_area h ≡ b → area_bytes rest ≤ length rest * 0x5000_0010 → (if b then range_end h - range_low h + area_bytes rest else area_bytes rest) ≤ suc (length rest) * 0x5000_0010
+    go : (b : Bool) → makes_area h ≡ b → total_length (places_of rest) ≤ length rest * 0x5000_0010
+        → total_length (if b then place_of h ∷ places_of rest else places_of rest) ≤ suc (length rest) * 0x5000_0010
     go true m later = let below = is_below size h all.0 m in omega arith
     go false m later = omega arith
 
@@ -161,10 +163,10 @@ apart_from i (h ∷ rest) e = go (first_place (meet h) (suc i) rest) refl e (apa
 
 pub record PassesRules (size entry : ℕ) (hs : List ProgramHeader) : Type 0 where
   pub rules : MeetRules size hs
-  pub small : area_bytes hs ≤ 268435456
+  pub small : total_length (places_of hs) ≤ 268435456
   pub apart : Apart hs
   pub aligned : entry % 4 ≡ 0
-  pub code : in_executable hs entry ≡ true
+  pub code : in_code (places_of hs) entry ≡ true
 
 pub program_passed : (size entry : ℕ) (hs : List ProgramHeader) → program_refusal size entry hs ≡ None → PassesRules size entry hs
 unfolding program_refusal

@@ -8,7 +8,8 @@ use Rattle.elf_image.specs.declared.rules.ElfErr.TheVariants.{TooLong, NotElf, H
 use Rattle.elf_image.specs.declared.rules.HeaderRule.{HeaderRule}
 use Rattle.elf_image.specs.declared.rules.HeaderRule.TheVariants.{Marked, SegmentSize, SegmentCut, Dynamic, WritableCode, Range}
 use Rattle.elf_image.specs.Header.{is_elf, file_header}
-use Rattle.elf_image.specs.Layout.{load_end, widened_low, widened_end}
+use Rattle.elf_image.specs.declared.image.Segment.{Segment}
+use Rattle.elf_image.specs.Layout.{load_end, rounded_low, rounded_end, total_length, in_code}
 
 -- the refusal of a rule that is met only where the test holds
 abbrev pub unless : Bool → ElfErr → Option ElfErr
@@ -118,20 +119,26 @@ headers_refusal size headers = first_of (headers_rules size headers)
 
 -- ---- all program headers together
 
+-- where the segment of a header lies in memory: the segment, without its bytes of the file
+abbrev pub place_of : ProgramHeader → Segment
+place_of h = record { index = 0; vaddr = h.vaddr; memsz = h.memsz; flags = h.flags; bytes = [] }
+
+-- the same of all headers that make areas, in the order of the headers
+abbrev pub places_of : List ProgramHeader → List Segment
+places_of [] = []
+places_of (h ∷ rest) = if makes_area h then place_of h ∷ places_of rest else places_of rest
+
+-- the areas have together at most 256 MiB
+abbrev pub memory_refusal : List ProgramHeader → Option ElfErr
+memory_refusal headers =
+    let bytes = total_length (places_of headers) in unless (nat_le bytes 268435456) (TooMuchMemory bytes)
+
 -- the widened byte range in memory
 abbrev pub range_low : ProgramHeader → ℕ
-range_low h = widened_low h.vaddr
+range_low h = rounded_low (place_of h)
 
 abbrev pub range_end : ProgramHeader → ℕ
-range_end h = widened_end h.vaddr h.memsz
-
--- how many bytes the areas have together
-abbrev pub area_bytes : List ProgramHeader → ℕ
-area_bytes [] = 0
-area_bytes (h ∷ rest) = if makes_area h then range_end h - range_low h + area_bytes rest else area_bytes rest
-
-abbrev pub memory_refusal : List ProgramHeader → Option ElfErr
-memory_refusal headers = unless (nat_le (area_bytes headers) 268435456) (TooMuchMemory (area_bytes headers))
+range_end h = rounded_end (place_of h)
 
 -- two areas have an address in common
 unfoldable pub meet : ProgramHeader → ProgramHeader → Bool
@@ -144,22 +151,15 @@ overlap_or first (Some second) later = Some (Overlap first second)
 -- the first header that meets a later one, and the first of those
 abbrev pub overlap_from : ℕ → List ProgramHeader → Option ElfErr
 overlap_from index [] = None
-overlap_from index (h ∷ rest) = overlap_or index (first_place (meet h) (suc index) rest) (overlap_from (suc index) rest)
+overlap_from index (h ∷ rest) =
+    overlap_or index (first_place (meet h) (suc index) rest) (overlap_from (suc index) rest)
 
 abbrev pub overlap_refusal : List ProgramHeader → Option ElfErr
 overlap_refusal headers = overlap_from 0 headers
 
--- the address lies in the area of an executable segment
-abbrev pub holds_code : ProgramHeader → ℕ → Bool
-holds_code h addr = makes_area h && h.flags % 2 == 1 && (nat_le (range_low h) addr && nat_lt addr (range_end h))
-
-abbrev pub in_executable : List ProgramHeader → ℕ → Bool
-in_executable [] addr = false
-in_executable (h ∷ rest) addr = holds_code h addr || in_executable rest addr
-
 -- the first instruction is aligned and lies in the area of an executable segment
 abbrev pub entry_refusal : ℕ → List ProgramHeader → Option ElfErr
-entry_refusal entry headers = unless (entry % 4 == 0 && in_executable headers entry) (EntryOutside entry)
+entry_refusal entry headers = unless (entry % 4 == 0 && in_code (places_of headers) entry) (EntryOutside entry)
 
 -- the rules on the program headers of a file of so many bytes
 abbrev pub program_rules : ℕ → ℕ → List ProgramHeader → List (Option ElfErr)

@@ -1,5 +1,7 @@
-ghost use Rattle.std.specs.Prelude.{◌≡◌, ◌+◌, ◌<◌, ◌≤◌, ◌^◌, length, drop, None, IfSome};
-ghost use Rattle.elf_image.specs.Rules.{range_low, range_end, area_bytes, first_place, meet, memory_refusal, overlap_refusal, holds_code, in_executable, entry_refusal, program_refusal};
+ghost use Rattle.std.specs.Prelude.{◌≡◌, ◌+◌, ◌<◌, ◌≤◌, ◌^◌, ◌∷◌, [], length, drop, None, IfSome};
+ghost use Rattle.elf_image.specs.Layout.{total_length, in_code};
+ghost use Rattle.elf_image.specs.Rules.{range_low, range_end, places_of, first_place, meet};
+ghost use Rattle.elf_image.specs.Rules.{memory_refusal, overlap_refusal, entry_refusal, program_refusal};
 
 use crate::header::ProgramHeader;
 use crate::rules::{ElfErr, makes_area, refusal_of_headers, sum};
@@ -25,7 +27,7 @@ fn end_of(header: &ProgramHeader) -> u128
 // How many bytes the areas have together.
 fn total_of(headers: &[ProgramHeader]) -> u128
     requires { length headers.now ≤ 64 }
-    ensures { result ≡ area_bytes headers.now }
+    ensures { result ≡ total_length (places_of headers.now) }
 {
     let mut total = 0;
     for index in 0..headers.len() {
@@ -40,7 +42,7 @@ fn total_of(headers: &[ProgramHeader]) -> u128
 /// The rule that the areas of load segments have together at most 268,435,456 bytes.
 pub(crate) fn refusal_of_memory(headers: &[ProgramHeader]) -> Option<ElfErr>
     requires few { length headers.now ≤ 64 }
-    requires fits { area_bytes headers.now < 2 ^ 64 }
+    requires fits { total_length (places_of headers.now) < 2 ^ 64 }
     ensures { result ≡ memory_refusal headers.now }
 {
     let total = total_of(headers) as u64;
@@ -94,7 +96,7 @@ pub(crate) fn refusal_of_overlap(headers: &[ProgramHeader]) -> Option<ElfErr>
 
 // Whether the address lies in the header's area, and that is executable.
 fn has_code_at(header: &ProgramHeader, addr: u64) -> bool
-    ensures { result ≡ holds_code header.now addr }
+    ensures { result ≡ in_code (places_of (header.now ∷ [])) addr }
 {
     makes_area(header)
         && header.flags % 2 == 1
@@ -104,7 +106,7 @@ fn has_code_at(header: &ProgramHeader, addr: u64) -> bool
 
 // Whether the address lies in an executable area.
 fn is_in_code(headers: &[ProgramHeader], addr: u64) -> bool
-    ensures { result ≡ in_executable headers.now addr }
+    ensures { result ≡ in_code (places_of headers.now) addr }
 {
     for header in headers {
         if has_code_at(header, addr) {

@@ -83,7 +83,8 @@ fn copy_segment(
 // The place of the first segment that starts above an address.
 fn place_above(segments: &[Segment], vaddr: u64) -> usize
     ensures within { result ≤ length segments.now }
-    ensures with_segment { (s : Shown) → s.vaddr ≡ vaddr → insert segments.now result s ≡ with_segment s segments.now }
+    ensures with_segment { (s : Shown) → s.vaddr ≡ vaddr
+        → insert segments.now result s ≡ with_segment s segments.now }
 {
     let mut place = 0;
     while place < segments.len() && segments[place].vaddr <= vaddr {
