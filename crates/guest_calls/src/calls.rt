@@ -55,7 +55,8 @@ fn read_some<I: Source>(
 fn fill<I: Source>(mem: &mut Memory, addr: u64, len: u64, input: &mut I) -> Result<u64, PortFault>
     requires fits { addr + len < 2 ^ 64 }
     requires writable { all_permitted writable_of len mem.old addr ≡ true }
-    ensures count { IfOk result (λ k. (xs : List ℕ) → I.rest input.old ≡ Some xs → k ≡ length (take len xs)) }
+    ensures count { IfOk result (λ k. (xs : List ℕ) → I.rest input.old ≡ Some xs
+        → k ≡ length (take len xs)) }
     ensures memory { OnOk result ((xs : List ℕ) → I.rest input.old ≡ Some xs
         → mem.new ≡ with_bytes_at mem.old addr (take len xs)) }
     ensures rest { OnOk result ((xs : List ℕ) → I.rest input.old ≡ Some xs

@@ -50,4 +50,5 @@ data_area low size = record { low = low; readable = true; writable = true; execu
 -- all areas, in address order
 abbrev pub areas_of : Elf → List Area
 areas_of elf =
-    segment_areas elf.segments ++ (data_area (heap_low elf.segments) heap_size ∷ (data_area stack_low stack_size ∷ []))
+    segment_areas elf.segments
+    ++ (data_area (heap_low elf.segments) heap_size ∷ (data_area stack_low stack_size ∷ []))

@@ -12,7 +12,8 @@ end_of a = a.low + length a.bytes
 abbrev pub AreasLieFrom : ℕ → List Area → Type 0
 AreasLieFrom from [] = Unit {0}
 AreasLieFrom from (a ∷ rest) =
-    (from ≤ a.low) × (a.low % 8 ≡ 0) × (length a.bytes % 8 ≡ 0) × (end_of a < 2 ^ 63) × AreasLieFrom (end_of a) rest
+    (from ≤ a.low) × (a.low % 8 ≡ 0) × (length a.bytes % 8 ≡ 0) × (end_of a < 2 ^ 63)
+    × AreasLieFrom (end_of a) rest
     × ((a.writable && a.executable) ≡ false)
 
 -- no area: what a look past the end gives

@@ -154,7 +154,8 @@ impl Memory {
     pub fn set_bytes(&mut self, addr: u64, bytes: &[u8])
         requires { all_permitted writable_of (length bytes.now) self.old addr ≡ true }
         ensures bytes { self.new ≡ with_bytes_at self.old addr bytes.now }
-        ensures writable { (n x : ℕ) → all_permitted writable_of n self.new x ≡ all_permitted writable_of n self.old x }
+        ensures writable { (n x : ℕ) → all_permitted writable_of n self.new x
+            ≡ all_permitted writable_of n self.old x }
 
         // Further bytes behind them.
         ensures more { (ys : List ℕ) → with_bytes_at self.new (addr + length bytes.now) ys

@@ -25,13 +25,17 @@ mark_kind = 0x6550_5201
 -- that header: type, flags, offset, vaddr, paddr, filesz, memsz and align, for so many bytes at a place
 unfoldable pub mark_bytes : ℕ → ℕ → List ℕ
 mark_bytes place size =
-    number 4 mark_kind ++ (number 4 1 ++ (number 8 place ++ (number 8 0 ++ (number 8 0 ++ (number 8 size ++ (number 8 size ++ number 8 8))))))
+    number 4 mark_kind
+    ++ (number 4 1 ++ (number 8 place ++ (number 8 0 ++ (number 8 0
+    ++ (number 8 size ++ (number 8 size ++ number 8 8))))))
 
 -- the record: its name, its version, the original's length, place and number of program headers, and
 -- how many entries and words follow
 unfoldable pub record_bytes : Record → List ℕ
 record_bytes r =
-    codes "XPAR" ++ (number 4 1 ++ (number 8 r.size ++ (number 8 r.phoff ++ (number 8 r.phnum ++ (number 8 r.entries ++ number 8 r.words)))))
+    codes "XPAR"
+    ++ (number 4 1 ++ (number 8 r.size ++ (number 8 r.phoff ++ (number 8 r.phnum
+    ++ (number 8 r.entries ++ number 8 r.words)))))
 
 -- an entry has two addresses of 64 bits
 abbrev pub IsEntry : Entry → Type 0

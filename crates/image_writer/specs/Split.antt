@@ -67,7 +67,8 @@ words_from bytes place (suc n) = field 4 place bytes ∷ words_from bytes (place
 -- the parts that the record tells of
 abbrev pub parts_of : List ℕ → List ℕ → Record → Split
 parts_of bytes rest r =
-    Parts (with_headers r.phoff r.phnum (take r.size bytes)) (entries_from rest 48 r.entries) (words_from rest (48 + 16 * r.entries) r.words)
+    Parts (with_headers r.phoff r.phnum (take r.size bytes)) (entries_from rest 48 r.entries)
+    (words_from rest (48 + 16 * r.entries) r.words)
 
 abbrev pub split_marked : List ℕ → List ℕ → Split
 split_marked bytes rest = if is_record (length bytes) rest then parts_of bytes rest (read_record rest) else BadMark

@@ -52,7 +52,8 @@ pub fn split_image(alloc: Global, bytes: &[u8]) -> Result<Split, AllocError>
 #[tactic(auto, unfolding(crate::specs::Split::is_marked))]
 fn mark_offset(bytes: &[u8]) -> Option<u64>
     ensures marked { is_some result ≡ is_marked bytes.now }
-    ensures value { IfSome result (λ offset. offset ≡ (program_header bytes.now (last_header_place bytes.now)).offset) }
+    ensures value { IfSome result (λ offset. offset
+        ≡ (program_header bytes.now (last_header_place bytes.now)).offset) }
 {
     if bytes.len() < 64 || !begins_as_elf(bytes) {
         return None;

@@ -43,7 +43,8 @@ unless_different (Some offset) image = Differs offset
 -- an image is admitted where it is that of its original part
 abbrev pub parts_by : List ℕ → List ℕ → List Entry → List ℕ → Result Elf ElfErr → Admission
 parts_by bytes original entries code (Ok elf) =
-    unless_different (first_difference (rewritten_of original elf).bytes bytes) (record { elf = elf; entries = entries; code = code })
+    unless_different (first_difference (rewritten_of original elf).bytes bytes)
+    (record { elf = elf; entries = entries; code = code })
 parts_by bytes original entries code (Err e) = Refused e
 
 abbrev pub split_by : List ℕ → Split → Admission

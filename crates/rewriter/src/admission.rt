@@ -51,7 +51,8 @@ fn admit_parts(
     entries: Entries,
     code: Code,
 ) -> Result<Image, AdmitErr>
-    ensures admitted { IfOk result (λ image. parts_by bytes.now original entries code (reading_of original) ≡ Admitted image) }
+    ensures admitted { IfOk result (λ image. parts_by bytes.now original entries code (reading_of original)
+        ≡ Admitted image) }
     ensures loadable { IfOk result (λ image. IsLoadable image.elf) }
     ensures refused { IfErr result (IsRefusal (parts_by bytes.now original entries code (reading_of original))) }
 {
@@ -96,7 +97,9 @@ pub fn admit(alloc: Global, bytes: &[u8]) -> Result<Image, AdmitErr>
     ensures refused { IfErr result (IsRefusal (admission_of bytes.now)) }
 
     // A marked file that is admitted is the image of its original part.
-    ensures image { IfOk result (λ image. (original : List ℕ) (entries : List Entry) (code : List ℕ) → split_of bytes.now ≡ Parts original entries code → (rewritten_of original image.elf).bytes ≡ bytes.now) }
+    ensures image { IfOk result (λ image. (original : List ℕ) (entries : List Entry) (code : List ℕ)
+        → split_of bytes.now ≡ Parts original entries code
+        → (rewritten_of original image.elf).bytes ≡ bytes.now) }
 {
     match split_image(alloc, bytes) {
         Ok(Split::Plain) => admit_plain(alloc, bytes),
