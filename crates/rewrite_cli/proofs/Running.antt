@@ -78,7 +78,7 @@ fault_stops grows elf fuel m xs store now input read output written start machin
     kind told =
     let s = start_of elf xs in
     let none : IsNone start.ended = ap (λ (v : Machine). is_some v.ended) begun in
-    let stop = runs.stops s begun told none (ap is_port_fault e ∙ port) in
+    let stop = runs.stops s begun (λ k l n h. told) none (ap is_port_fault e ∙ port) in
     let more = grows stop.count (suc stop.count) s (omega arith) in (
       record { output = (serial stop.count s).output; more = more.0; rest = (serial stop.count s).rest },
       (
@@ -89,7 +89,7 @@ fault_stops grows elf fuel m xs store now input read output written start machin
               part_sent ys (serial stop.count s).output (serial (suc stop.count) s).output more.0 written.bytes more.1
               (stop.sent ys (told_out ∙ ap (λ (v : List ℕ). Some v) (sym (append-nil ys))));
           rest = left_by answer end input.bytes read.bytes xs (serial stop.count s).rest kind (λ sink. stop.unread (e
-              ∙ ap (λ (v : End). Some v) sink));
+              ∙ ap (λ (v : End). Some v) sink) told);
           files = same;
         },
       ),
@@ -135,14 +135,14 @@ pub run_ready : (elf : Elf) (fuel : ℕ) (dump : Option (List ℕ)) (m : Files) 
 run_ready elf fuel dump m xs store now input read output written start machine end steps begun runs e clean counted
     told =
     let s = start_of elf xs in
-    let same : machine ≡ (serial fuel s).machine = runs.machine s begun told clean in
+    let same : machine ≡ (serial fuel s).machine = runs.machine s begun (λ k l n h. told) clean in
     let status : status_of_end end ≡ status_of (ended (serial fuel s)) = status_as machine.ended end e
     ∙ ap (λ (v : Machine). status_of v.ended) same in
     record {
       status_is = status;
       report = ap (λ (v : Status). report_of (of_steps steps) v) status
           ∙ ap (λ (n : ℕ). report_of (of_steps n) (status_of (ended (serial fuel s)))) counted;
-      output = λ ys told_out. runs.output s ys begun told clean (told_out
+      output = λ ys told_out. runs.output s ys begun (λ k l n h. told) clean (told_out
           ∙ ap (λ (v : List ℕ). Some v) (sym (append-nil ys)));
       rest = λ t. runs.rest s begun told clean;
     }
@@ -157,7 +157,7 @@ pub run_dump : (elf : Elf) (fuel : ℕ) (dump : Option (List ℕ)) (xs : List �
     → dump_of dump (status_of_end end) machine.memory ≡ (ran fuel dump (start_of elf xs)).saved
 run_dump elf fuel dump xs input read output written start machine end begun runs e clean told =
     let s = start_of elf xs in
-    let same : machine ≡ (serial fuel s).machine = runs.machine s begun told clean in
+    let same : machine ≡ (serial fuel s).machine = runs.machine s begun (λ k l n h. told) clean in
     let status : status_of_end end ≡ status_of (ended (serial fuel s)) = status_as machine.ended end e
     ∙ ap (λ (v : Machine). status_of v.ended) same in
     ap (λ (v : Status). dump_of dump v machine.memory) status

@@ -7,11 +7,11 @@ use Rattle.outside_ports.specs.Ports.{Rose}
 use Rattle.guest_calls.specs.Faults.{SendsPart}
 use Rattle.guest_calls.specs.Calls.{called}
 use Rattle.serial_run.specs.Serial.{State, ended, after_call, step, serial, executed_of}
-use Rattle.serial_run.specs.Runs.{Configuration, call_at, Keeps, Acts, Runs, StopsReading, StopsWriting, StopsWithin, WritesPart, is_port_fault}
+use Rattle.serial_run.specs.Runs.{Configuration, call_at, StandsAtCall, TellsReads, NeverCalls, Keeps, Acts, Runs, StopsReading, StopsWriting, StopsWithin, WritesPart, is_port_fault}
 use Rattle.serial_run.specs.declared.machine.Machine.{Machine}
 use Rattle.serial_run.specs.declared.machine.End.{End}
 use Rattle.serial_run.specs.declared.machine.End.TheVariants.{ReadFault, WriteFault}
-use Rattle.serial_run.proofs.Steps.{serial-suc, serial-ended, serial_next, serial_last, none_ended, none_fault, executed_first, with_before, step_before, serial_before, output_more}
+use Rattle.serial_run.proofs.Steps.{serial-suc, serial-ended, serial_next, serial_last, none_ended, none_fault, executed_first, with_before, step_before, output_more}
 
 -- a first part of the bytes that are appended
 part_of_bytes : (old bytes : List ℕ) (written : Option (List ℕ)) → SendsPart old bytes written → WritesPart old (old ++ bytes) written
@@ -71,50 +71,90 @@ keeps_on c d e a b = record {
 -- k instructions, none of which has given an ending
 pub record RunsOn (k : ℕ) (c d : Configuration) : Type 0 where
   pub running : d.machine.ended ≡ None
-  pub machine : (s : State) → c.machine ≡ s.machine → c.rest ≡ Some s.rest → d.machine ≡ (serial k s).machine
+  pub machine : (s : State) → c.machine ≡ s.machine → TellsReads k s c.rest → d.machine ≡ (serial k s).machine
   pub rest : (s : State) → c.machine ≡ s.machine → c.rest ≡ Some s.rest → d.rest ≡ Some (serial k s).rest
-  pub output : (s : State) → c.machine ≡ s.machine → c.rest ≡ Some s.rest → c.written ≡ Some s.output
-      → d.written ≡ Some (serial k s).output
-  pub first : (s : State) → c.machine ≡ s.machine → c.rest ≡ Some s.rest → (j : ℕ) → j < k → IsNone (ended (serial j s))
+  pub output : (s : State) (before : List ℕ) → c.machine ≡ s.machine → TellsReads k s c.rest
+      → c.written ≡ Some (before ++ s.output) → d.written ≡ Some (before ++ (serial k s).output)
+  pub first : (s : State) → c.machine ≡ s.machine → TellsReads k s c.rest → (j : ℕ) → j < k → IsNone (ended (serial j s))
+
+-- a source that tells its rest tells it for each number of instructions
+pub tells_all : (n : ℕ) (s : State) (told : Option (List ℕ)) → told ≡ Some s.rest → TellsReads n s told
+tells_all n s told r = λ k l none at. r
+
+-- and one that tells it for some of them tells it for fewer
+pub tells_fewer : (n k : ℕ) (s : State) (told : Option (List ℕ)) → k ≤ n → TellsReads n s told → TellsReads k s told
+tells_fewer n k s told l t = λ j m none at. t j (omega arith) none at
+
+-- where the next of fewer instructions reads, the source tells what is left
+tells_next : (n k : ℕ) (c d : Configuration) → RunsOn k c d → (s : State) → c.machine ≡ s.machine → k < n
+    → TellsReads n s c.rest → StandsAtCall 63 d.machine → d.rest ≡ Some (serial k s).rest
+tells_next n k c d a s m l t at =
+    let here = a.machine s m (tells_fewer n k s c.rest (omega arith) t) in
+    let P : Machine → Type 0 = λ v. StandsAtCall 63 v in
+    a.rest s m (t k l (none_ended (serial k s) d.machine here a.running) (subst P here at))
+
+-- a run that never reads wants nothing told
+pub tells_never : (n : ℕ) (s : State) (told : Option (List ℕ)) → NeverCalls 63 n s → TellsReads n s told
+tells_never n s told never = λ k l none at. absurd (never k l none at)
+
+pub never_fewer : (number n k : ℕ) (s : State) → k ≤ n → NeverCalls number n s → NeverCalls number k s
+never_fewer number n k s l never = λ j m none at. never j (omega arith) none at
+
+-- the next instruction is not the call either
+pub never_next : (number n k : ℕ) (c d : Configuration) → RunsOn k c d → (s : State) → c.machine ≡ s.machine → k < n
+    → TellsReads n s c.rest → NeverCalls number n s → StandsAtCall number d.machine → ⊥
+never_next number n k c d a s m l t never at =
+    let here = a.machine s m (tells_fewer n k s c.rest (omega arith) t) in
+    let P : Machine → Type 0 = λ v. StandsAtCall number v in
+    never k l (none_ended (serial k s) d.machine here a.running) (subst P here at)
 
 pub runs_none : (c : Configuration) → c.machine.ended ≡ None → RunsOn 0 c c
 runs_none c e = record {
   running = e;
-  machine = λ s m r. m;
+  machine = λ s m t. m;
   rest = λ s m r. r;
-  output = λ s m r w. w;
-  first = λ s m r j l. absurd (omega arith);
+  output = λ s before m t w. w;
+  first = λ s m t j l. absurd (omega arith);
 }
 
 -- one instruction more, which gives no ending either
-pub runs_more : (k : ℕ) (c d e : Configuration) → RunsOn k c d → Acts step d e → e.machine.ended ≡ None → RunsOn (k + 1) c e
+pub runs_more : (k : ℕ) (c d e : Configuration) → RunsOn k c d → Acts StandsAtCall step d e → e.machine.ended ≡ None
+    → RunsOn (k + 1) c e
 runs_more k c d e a b running = let no_fault = none_fault e.machine.ended running in
     record {
       running = running;
-      machine = λ s m r.
-          b.machine (serial k s) (a.machine s m r) (a.rest s m r) no_fault ∙ ap (λ (t : State). t.machine) (serial_next k s);
+      machine = λ s m t.
+          b.machine (serial k s) (a.machine s m (fewer s t)) (tells_next (k + 1) k c d a s m (omega arith) t) no_fault
+          ∙ ap (λ (t : State). t.machine) (serial_next k s);
       rest = λ s m r.
-          b.rest (serial k s) (a.machine s m r) (a.rest s m r) no_fault ∙ ap (λ (t : State). Some t.rest) (serial_next k s);
-      output = λ s m r w.
-          b.output (serial k s) (a.machine s m r) (a.rest s m r) no_fault (a.output s m r w)
-          ∙ ap (λ (t : State). Some t.output) (serial_next k s);
-      first = λ s m r. below_more _ k (a.first s m r) (none_ended (serial k s) d.machine (a.machine s m r) a.running);
+          b.rest (serial k s) (a.machine s m (tells_all k s c.rest r)) (a.rest s m r) no_fault
+          ∙ ap (λ (t : State). Some t.rest) (serial_next k s);
+      output = λ s before m t w.
+          b.output (with_before before (serial k s)) (a.machine s m (fewer s t)) no_fault (a.output s before m (fewer s t) w)
+          ∙ ap (λ (t : State). Some t.output) (step_before before (serial k s))
+          ∙ ap (λ (t : State). Some (before ++ t.output)) (serial_next k s);
+      first = λ s m t.
+          below_more _ k (a.first s m (fewer s t))
+          (none_ended (serial k s) d.machine (a.machine s m (fewer s t)) a.running);
     }
-
--- what was written before comes first
-output_behind : (n : ℕ) (s : State) (before : List ℕ) (written : Option (List ℕ))
-    → written ≡ Some (serial n (with_before before s)).output → written ≡ Some (before ++ (serial n s).output)
-output_behind n s before written e = e ∙ ap (λ (t : State). Some t.output) (serial_before n before s)
+  where
+    fewer : (s : State) → TellsReads (k + 1) s c.rest → TellsReads k s c.rest
+    fewer s t = tells_fewer (k + 1) k s c.rest (omega arith) t
 
 port_fault_none : (o : Option End) → o ≡ None → is_port_fault o ≡ true → IsSome o
 port_fault_none o e h = let f = none_fault o e in cc
 
+no_fault_none : {A : Type 0} (o : Option End) (end : End) → o ≡ None → o ≡ Some end → A
+no_fault_none o end e h = absurd (cc)
+
 -- as many instructions as were allowed have given no ending
 pub runs_out : (n : ℕ) (c d : Configuration) → RunsOn n c d → Runs n c d
 runs_out n c d a = record {
-  machine = λ s m r f. a.machine s m r;
+  machine = λ s m t f. a.machine s m t;
   rest = λ s m r f. a.rest s m r;
-  output = λ s before m r f w. output_behind n s before d.written (a.output (with_before before s) m r w);
+  output = λ s before m t f w. a.output s before m t w;
+  at_read = λ none h. no_fault_none d.machine.ended ReadFault a.running h;
+  at_write = λ none h. no_fault_none d.machine.ended WriteFault a.running h;
   stops = λ s m r o f. let e = none_fault d.machine.ended a.running in cc;
 }
 
@@ -124,9 +164,11 @@ runs_ended n c some =
     let stays : (s : State) → c.machine ≡ s.machine → serial n s ≡ s =
     λ s m. serial-ended n s (ap (λ (v : Machine). is_some v.ended) (sym m) ∙ some) in
     record {
-      machine = λ s m r f. m ∙ ap (λ (t : State). t.machine) (sym (stays s m));
+      machine = λ s m t f. m ∙ ap (λ (t : State). t.machine) (sym (stays s m));
       rest = λ s m r f. r ∙ ap (λ (t : State). Some t.rest) (sym (stays s m));
-      output = λ s before m r f w. w ∙ ap (λ (t : State). Some (before ++ t.output)) (sym (stays s m));
+      output = λ s before m t f w. w ∙ ap (λ (t : State). Some (before ++ t.output)) (sym (stays s m));
+      at_read = λ none h. absurd (cc);
+      at_write = λ none h. absurd (cc);
       stops = λ s m r o f. cc;
     }
 
@@ -159,54 +201,69 @@ part_of_all n count s before written l p =
         rw e (ap (λ (v : List ℕ). x ∷ v) (take_of_more n xs ys))
 
 -- one instruction more, which gives an ending
-pub runs_stop : (n k : ℕ) (c d e : Configuration) → RunsOn k c d → Acts step d e → k < n → is_some e.machine.ended ≡ true → Runs n c e
+pub runs_stop : (n k : ℕ) (c d e : Configuration) → RunsOn k c d → Acts StandsAtCall step d e → k < n
+    → is_some e.machine.ended ≡ true → Runs n c e
 runs_stop n k c d e a b l some = record {
-  machine = λ s m r f. at_machine s m r f ∙ ap (λ (t : State). t.machine) (all s m r f);
+  machine = λ s m t f. at_machine s m t f ∙ ap (λ (t : State). t.machine) (all s m t f);
   rest = λ s m r f.
-      b.rest (serial k s) (a.machine s m r) (a.rest s m r) f ∙ ap (λ (t : State). Some t.rest) (all s m r f);
-  output = λ s before m r f w.
-      output_behind n s before e.written
-      (b.output (serial k (with_before before s)) (a.machine (with_before before s) m r) (a.rest (with_before before s) m r) f (a.output (with_before before s) m r w)
-      ∙ ap (λ (t : State). Some t.output) (all (with_before before s) m r f));
-  stops = λ s m r o f. stop s m r f;
+      let t = tells_all n s c.rest r in
+      b.rest (serial k s) (here s m t) (a.rest s m r) f ∙ ap (λ (t : State). Some t.rest) (all s m t f);
+  output = λ s before m t f w.
+      b.output (with_before before (serial k s)) (here s m t) f (a.output s before m (fewer s t) w)
+      ∙ ap (λ (t : State). Some t.output) (step_before before (serial k s))
+      ∙ ap (λ (t : State). Some (before ++ t.output)) (all s m t f);
+  at_read = λ none h. b.at_read h;
+  at_write = λ none h. b.at_write h;
+  stops = λ s m t o f. stop s m t f;
 }
   where
-    at_machine : (s : State) → c.machine ≡ s.machine → c.rest ≡ Some s.rest → is_port_fault e.machine.ended ≡ false → e.machine ≡ (step (serial k s)).machine
-    at_machine s m r f = b.machine (serial k s) (a.machine s m r) (a.rest s m r) f
+    fewer : (s : State) → TellsReads n s c.rest → TellsReads k s c.rest
+    fewer s t = tells_fewer n k s c.rest (omega arith) t
 
-    all : (s : State) → c.machine ≡ s.machine → c.rest ≡ Some s.rest → is_port_fault e.machine.ended ≡ false → step (serial k s) ≡ serial n s
-    all s m r f =
-        let at : is_some (ended (step (serial k s))) ≡ true = ap (λ (v : Machine). is_some v.ended) (sym (at_machine s m r f)) ∙ some in
+    here : (s : State) → c.machine ≡ s.machine → TellsReads n s c.rest → d.machine ≡ (serial k s).machine
+    here s m t = a.machine s m (fewer s t)
+
+    at_machine : (s : State) → c.machine ≡ s.machine → TellsReads n s c.rest → is_port_fault e.machine.ended ≡ false
+        → e.machine ≡ (step (serial k s)).machine
+    at_machine s m t f = b.machine (serial k s) (here s m t) (tells_next n k c d a s m l t) f
+
+    all : (s : State) → c.machine ≡ s.machine → TellsReads n s c.rest → is_port_fault e.machine.ended ≡ false
+        → step (serial k s) ≡ serial n s
+    all s m t f =
+        let at : is_some (ended (step (serial k s))) ≡ true = ap (λ (v : Machine). is_some v.ended) (sym (at_machine s m t f)) ∙ some in
         sym (serial_last k n s l at)
 
-    stop : (s : State) → c.machine ≡ s.machine → c.rest ≡ Some s.rest → is_port_fault e.machine.ended ≡ true → StopsWithin n s c e
-    stop s m r f =
-        let here = a.machine s m r in
+    stop : (s : State) → c.machine ≡ s.machine → TellsReads n s c.rest → is_port_fault e.machine.ended ≡ true → StopsWithin n s c e
+    stop s m t f =
+        let at = here s m t in
         let sent : (before : List ℕ) → c.written ≡ Some (before ++ s.output)
         → WritesPart (before ++ (serial k s).output) (before ++ (serial (suc k) s).output) e.written =
         λ before w.
-        let wrote = output_behind k s before d.written (a.output (with_before before s) m r w) in
+        let wrote = a.output s before m (fewer s t) w in
         let P : List ℕ → Type 0 = λ v. WritesPart (before ++ (serial k s).output) v e.written in
         let next : (step (with_before before (serial k s))).output ≡ before ++ (serial (suc k) s).output =
         ap (λ (t : State). t.output) (step_before before (serial k s)) ∙ ap (λ (t : State). before ++ t.output) (sym (serial-suc k s)) in
-        subst P next (b.sent (with_before before (serial k s)) here f wrote) in
+        subst P next (b.sent (with_before before (serial k s)) at f wrote) in
         record {
           count = k;
           below = l;
-          running = none_ended (serial k s) d.machine here a.running;
-          reading = λ h. let P : Machine → Type 0 = λ v. StopsReading v e.machine in subst P here (b.reading h);
-          writing = λ h. let P : Machine → Type 0 = λ v. StopsWriting v e.machine in subst P here (b.writing h);
-          unread = λ h. b.unread h ∙ a.rest s m r;
+          running = none_ended (serial k s) d.machine at a.running;
+          reading = λ h. let P : Machine → Type 0 = λ v. StopsReading v e.machine in subst P at (b.reading h);
+          writing = λ h. let P : Machine → Type 0 = λ v. StopsWriting v e.machine in subst P at (b.writing h);
+          unread = λ h r. b.unread h ∙ a.rest s m r;
           sent = sent;
           part = λ before w. part_of_all n k s before e.written l (sent before w);
         }
 
 -- how many instructions were executed, where one gives the first ending
-pub steps_stop : (n k : ℕ) (c d e : Configuration) → RunsOn k c d → Acts step d e → k < n → is_some e.machine.ended ≡ true
-    → (s : State) → c.machine ≡ s.machine → c.rest ≡ Some s.rest → is_port_fault e.machine.ended ≡ false → k + 1 ≡ executed_of n s
-steps_stop n k c d e a b l some s m r f =
-    let there = b.machine (serial k s) (a.machine s m r) (a.rest s m r) f in
-    let none = none_ended (serial k s) d.machine (a.machine s m r) a.running in
+pub steps_stop : (n k : ℕ) (c d e : Configuration) → RunsOn k c d → Acts StandsAtCall step d e → k < n
+    → is_some e.machine.ended ≡ true → (s : State) → c.machine ≡ s.machine → TellsReads n s c.rest
+    → is_port_fault e.machine.ended ≡ false → k + 1 ≡ executed_of n s
+steps_stop n k c d e a b l some s m t f =
+    let fewer = tells_fewer n k s c.rest (omega arith) t in
+    let here = a.machine s m fewer in
+    let there = b.machine (serial k s) here (tells_next n k c d a s m l t) f in
+    let none = none_ended (serial k s) d.machine here a.running in
     let at : is_some (ended (serial (k + 1) s)) ≡ true =
     ap (λ (t : State). is_some (ended t)) (sym (serial_next k s)) ∙ ap (λ (v : Machine). is_some v.ended) (sym there) ∙ some in
-    sym (executed_first (k + 1) n s (omega arith) at (below_more _ k (a.first s m r) none))
+    sym (executed_first (k + 1) n s (omega arith) at (below_more _ k (a.first s m fewer) none))

@@ -26,7 +26,8 @@ IsFault _ = ⊥
 -- a run comes to this ending at pc, since no instruction is executed there
 pub record EndsAt (m : List Area) (pc : ℕ) (end : End) : Type 0 where
   pub fault : IsFault end
-  pub next : (s : State) → s.machine.memory ≡ m → s.machine.pc ≡ pc → ended s ≡ None → step s ≡ with_ending s end
+  pub next : (s : State) → s.machine.memory ≡ m → s.machine.pc ≡ pc → ended s ≡ None
+      → step s ≡ with_ending s end
 
 -- an entry has the instruction of its address
 pub record IsEntryOf (m : List Area) (e : Entry) : Type 0 where

@@ -1,9 +1,10 @@
-ghost use Rattle.std.specs.Prelude.{◌≡◌, ◌≤◌, ℕ, false, Some, None, IfOk, IsSome, IsNone, is_some, is_none, unwrap_or};
+ghost use Rattle.std.specs.Prelude.{◌≡◌, ◌≢◌, ◌≤◌, ℕ, false, Some, None, IfOk, IsSome, IsNone, is_some, is_none, unwrap_or};
 ghost use Rattle.elf_image.specs.Layout.{IsLoadable};
 ghost use Rattle.serial_run.specs.Serial.{State, start_machine, after_call, after_instr, step, executed_of};
 ghost use Rattle.guest_memory.specs.Layout.{KeepAreas};
 ghost use Rattle.serial_run.specs.Table.{instr_at};
 ghost use Rattle.serial_run.specs.Runs.{is_port_fault, configuration_of, call_at, Keeps, Acts, Runs};
+ghost use Rattle.serial_run.specs.Runs.{HasNumber, DoesCall, StandsAtCall, TellsReads, NeverCalls};
 
 use crate::machine::{End, Machine, end_at};
 use crate::table::{Entry, PLACES, find_instr, instr_from};
@@ -43,13 +44,15 @@ pub fn start(alloc: Global, elf: &Elf) -> Result<Machine, AllocError>
 // Answers a call at pc.
 fn answer_call<I: Source, O: Sink>(m: &mut Machine, input: &mut I, out: &mut O)
     requires { m.old.ended ≡ None }
-    ensures acts { Acts (λ s. after_call s (call_at s))
+    ensures acts { Acts HasNumber (λ s. after_call s (call_at s))
         (configuration_of m.old (I.rest input.old) (I.faults input.old) (O.written out.old) (O.faults out.old))
         (configuration_of m.new (I.rest input.new) (I.faults input.new) (O.written out.new) (O.faults out.new)) }
     ensures keeps { Keeps
         (configuration_of m.old (I.rest input.old) (I.faults input.old) (O.written out.old) (O.faults out.old))
         (configuration_of m.new (I.rest input.new) (I.faults input.new) (O.written out.new) (O.faults out.new)) }
     ensures areas { KeepAreas m.old.memory m.new.memory }
+    ensures takes_nothing { ¬ HasNumber 63 m.old → input.new ≡ input.old }
+    ensures sends_nothing { ¬ HasNumber 64 m.old → out.new ≡ out.old }
 {
     match call(&mut m.regs, &mut m.memory, &mut m.brk, input, out) {
         Ok(Going::On) => m.pc = m.pc.wrapping_add(4),
@@ -70,7 +73,7 @@ fn execute<I: Source, O: Sink>(
     out: &mut O,
 ) -> Option<u64>
     requires { m.old.ended ≡ None }
-    ensures acts { Acts (λ s. after_instr s i)
+    ensures acts { Acts (DoesCall i) (λ s. after_instr s i)
         (configuration_of (record m.old { pc = pc })
         (I.rest input.old) (I.faults input.old) (O.written out.old) (O.faults out.old))
         (configuration_of (record m.new { pc = unwrap_or result m.new.pc })
@@ -82,6 +85,8 @@ fn execute<I: Source, O: Sink>(
         (I.rest input.new) (I.faults input.new) (O.written out.new) (O.faults out.new)) }
     ensures ended { is_none result ≡ is_some m.new.ended }
     ensures areas { KeepAreas m.old.memory m.new.memory }
+    ensures takes_nothing { ¬ DoesCall i 63 m.old → input.new ≡ input.old }
+    ensures sends_nothing { ¬ DoesCall i 64 m.old → out.new ≡ out.old }
 {
     areas_stay();
     m.memory.lies();
@@ -103,13 +108,17 @@ fn execute<I: Source, O: Sink>(
 #[tactic(auto, unfolding(crate::specs::Serial::step))]
 fn advance<I: Source, O: Sink>(m: &mut Machine, input: &mut I, out: &mut O)
     requires { m.old.ended ≡ None }
-    ensures acts { Acts step
+    ensures acts { Acts StandsAtCall step
         (configuration_of m.old (I.rest input.old) (I.faults input.old) (O.written out.old) (O.faults out.old))
         (configuration_of m.new (I.rest input.new) (I.faults input.new) (O.written out.new) (O.faults out.new)) }
     ensures keeps { Keeps
         (configuration_of m.old (I.rest input.old) (I.faults input.old) (O.written out.old) (O.faults out.old))
         (configuration_of m.new (I.rest input.new) (I.faults input.new) (O.written out.new) (O.faults out.new)) }
+    ensures takes_nothing { ¬ StandsAtCall 63 m.old → input.new ≡ input.old }
+    ensures sends_nothing { ¬ StandsAtCall 64 m.old → out.new ≡ out.old }
 {
+    areas_stay();
+    m.memory.lies();
     match instr_from(&m.memory, m.pc) {
         Err(end) => end_at(m, m.pc, end),
         Ok(i) => if let Some(next) = execute(m, m.pc, i, input, out) {
@@ -124,12 +133,16 @@ fn advance<I: Source, O: Sink>(m: &mut Machine, input: &mut I, out: &mut O)
 /// fault of the source, and a first part of the call's bytes that has gone out.
 pub fn step_serial<I: Source, O: Sink>(m: &mut Machine, input: &mut I, out: &mut O) -> Option<End>
     ensures answer { result ≡ m.new.ended }
-    ensures acts { IsNone m.old.ended → Acts step
+    ensures acts { IsNone m.old.ended → Acts StandsAtCall step
         (configuration_of m.old (I.rest input.old) (I.faults input.old) (O.written out.old) (O.faults out.old))
         (configuration_of m.new (I.rest input.new) (I.faults input.new) (O.written out.new) (O.faults out.new)) }
     ensures keeps { Keeps
         (configuration_of m.old (I.rest input.old) (I.faults input.old) (O.written out.old) (O.faults out.old))
         (configuration_of m.new (I.rest input.new) (I.faults input.new) (O.written out.new) (O.faults out.new)) }
+
+    // What is no read (63) takes nothing, and what is no write (64) sends nothing.
+    ensures takes_nothing { ¬ StandsAtCall 63 m.old → input.new ≡ input.old }
+    ensures sends_nothing { ¬ StandsAtCall 64 m.old → out.new ≡ out.old }
 
     // A machine that has an ending.
     ensures stays { IsSome m.old.ended → m.new ≡ m.old }
@@ -163,7 +176,7 @@ fn run_from<I: Source, O: Sink>(
     requires running { m.old.ended ≡ None }
     requires first { instr_at m.old.memory m.old.pc ≡ Some first }
     ensures end { result.end ≡ unwrap_or m.new.ended End.Spent }
-    ensures steps { (s : State) → m.old ≡ s.machine → I.rest input.old ≡ Some s.rest
+    ensures steps { (s : State) → m.old ≡ s.machine → TellsReads fuel s (I.rest input.old)
         → is_port_fault m.new.ended ≡ false → result.steps ≡ executed_of fuel s }
     ensures within { result.steps ≤ fuel }
     ensures runs { Runs fuel
@@ -172,6 +185,9 @@ fn run_from<I: Source, O: Sink>(
     ensures keeps { Keeps
         (configuration_of m.old (I.rest input.old) (I.faults input.old) (O.written out.old) (O.faults out.old))
         (configuration_of m.new (I.rest input.new) (I.faults input.new) (O.written out.new) (O.faults out.new)) }
+    ensures takes_nothing { (s : State) → m.old ≡ s.machine → NeverCalls 63 fuel s → input.new ≡ input.old }
+    ensures sends_nothing { (s : State) → m.old ≡ s.machine → TellsReads fuel s (I.rest input.old)
+        → NeverCalls 64 fuel s → out.new ≡ out.old }
 {
     areas_stay();
     m.memory.lies();
@@ -212,7 +228,7 @@ pub fn run_counted<I: Source, O: Sink>(
     out: &mut O,
 ) -> Ran
     ensures end { result.end ≡ unwrap_or m.new.ended End.Spent }
-    ensures steps { (s : State) → m.old ≡ s.machine → I.rest input.old ≡ Some s.rest
+    ensures steps { (s : State) → m.old ≡ s.machine → TellsReads fuel s (I.rest input.old)
         → is_port_fault m.new.ended ≡ false → result.steps ≡ executed_of fuel s }
     ensures within { result.steps ≤ fuel }
     ensures runs { Runs fuel
@@ -221,6 +237,11 @@ pub fn run_counted<I: Source, O: Sink>(
     ensures keeps { Keeps
         (configuration_of m.old (I.rest input.old) (I.faults input.old) (O.written out.old) (O.faults out.old))
         (configuration_of m.new (I.rest input.new) (I.faults input.new) (O.written out.new) (O.faults out.new)) }
+
+    // A run without reads (63), and one without writes (64).
+    ensures takes_nothing { (s : State) → m.old ≡ s.machine → NeverCalls 63 fuel s → input.new ≡ input.old }
+    ensures sends_nothing { (s : State) → m.old ≡ s.machine → TellsReads fuel s (I.rest input.old)
+        → NeverCalls 64 fuel s → out.new ≡ out.old }
 
     // A machine that has an ending.
     ensures stays { IsSome m.old.ended → m.new ≡ m.old }
@@ -256,6 +277,11 @@ pub fn run_serial<I: Source, O: Sink>(m: &mut Machine, fuel: u64, input: &mut I,
     ensures keeps { Keeps
         (configuration_of m.old (I.rest input.old) (I.faults input.old) (O.written out.old) (O.faults out.old))
         (configuration_of m.new (I.rest input.new) (I.faults input.new) (O.written out.new) (O.faults out.new)) }
+
+    // A run without reads (63), and one without writes (64).
+    ensures takes_nothing { (s : State) → m.old ≡ s.machine → NeverCalls 63 fuel s → input.new ≡ input.old }
+    ensures sends_nothing { (s : State) → m.old ≡ s.machine → TellsReads fuel s (I.rest input.old)
+        → NeverCalls 64 fuel s → out.new ≡ out.old }
 
     // A machine that has an ending.
     ensures stays { IsSome m.old.ended → m.new ≡ m.old }

@@ -41,7 +41,7 @@ returns-clause-done g c =
     ended_runs c.args.elf.now c.args.fuel (option_copied c.args.dump) _ _ _ _ _ _ c.in-Ok.machine
     c.run_counted-ran.new.m end c.run_counted-ran.result.steps _ _ c.in-Ok.ensures
     c.run_counted-ran.ensures.runs c.run_counted-ran.ensures.end clean
-    (λ xs told. c.run_counted-ran.ensures.steps (start_of c.args.elf.now xs) c.in-Ok.ensures told clean)
+    (λ xs told. c.run_counted-ran.ensures.steps (start_of c.args.elf.now xs) c.in-Ok.ensures (λ k l n h. told) clean)
     (rw c.status_from.ensures at c.save_memory.ensures.kind)
     (inner_end end c.in_default-end.not-ReadFault c.in_default-end.not-WriteFault) c.save_memory.ensures.text
     (rw c.status_from.ensures at c.save_memory.ensures.saved)

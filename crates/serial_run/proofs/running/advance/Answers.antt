@@ -1,14 +1,14 @@
 use Rattle.std.proofs.Common.{subst, sym}
-use Rattle.serial_run.specs.Runs.{Acts, Keeps, configuration_of}
+use Rattle.serial_run.specs.Runs.{StandsAtCall, Acts, Keeps, configuration_of}
 use Rattle.serial_run.specs.Serial.{step}
 use Rattle.serial_run.specs.declared.machine.Machine.{Machine}
-use Rattle.serial_run.proofs.Decoded.{acts_as, acts_end, keeps_end}
+use Rattle.serial_run.proofs.Decoded.{stands, acts_as, acts_end, keeps_end}
 use Rattle.serial_run.proofs.running.advance.Goals as goal
 
 pub returns-in-Err-clause-acts : goal.returns-in-Err-clause-acts
 returns-in-Err-clause-acts g c =
     let m = c.args.m.now in
-    let P : Machine → Type 0 = λ v. Acts step (configuration_of m (g.I.Source.rest c.args.input.now) (g.I.Source.faults c.args.input.now) (g.O.Sink.written c.args.out.now) (g.O.Sink.faults c.args.out.now)) (configuration_of v (g.I.Source.rest c.args.input.now) (g.I.Source.faults c.args.input.now) (g.O.Sink.written c.args.out.now) (g.O.Sink.faults c.args.out.now)) in
+    let P : Machine → Type 0 = λ v. Acts StandsAtCall step (configuration_of m (g.I.Source.rest c.args.input.now) (g.I.Source.faults c.args.input.now) (g.O.Sink.written c.args.out.now) (g.O.Sink.faults c.args.out.now)) (configuration_of v (g.I.Source.rest c.args.input.now) (g.I.Source.faults c.args.input.now) (g.O.Sink.written c.args.out.now) (g.O.Sink.faults c.args.out.now)) in
     subst P (sym c.end_at.ensures) (acts_end m _ _ _ _ c.in-Err.end c.requires c.in-Err.ensures.ends)
 
 pub returns-in-Err-clause-keeps : goal.returns-in-Err-clause-keeps
@@ -18,7 +18,15 @@ returns-in-Err-clause-keeps g c =
     subst P (sym c.end_at.ensures) (keeps_end m _ _ _ _ c.in-Err.end c.in-Err.ensures.ends.fault)
 
 pub returns-in-Some-clause-acts : goal.returns-in-Some-clause-acts
-returns-in-Some-clause-acts g c = acts_as c.in-Ok.i _ _ c.requires c.in-Ok.ensures.instr c.in-Some.ensures.acts
+returns-in-Some-clause-acts g c = acts_as c.in-Ok.i _ _ c.requires c.in-Ok.ensures.instr c.lies.ensures c.in-Some.ensures.areas c.in-Some.ensures.acts
 
 pub returns-in_default-clause-acts : goal.returns-in_default-clause-acts
-returns-in_default-clause-acts g c = acts_as c.in-Ok.i _ _ c.requires c.in-Ok.ensures.instr c.in_default.ensures.acts
+returns-in_default-clause-acts g c = acts_as c.in-Ok.i _ _ c.requires c.in-Ok.ensures.instr c.lies.ensures c.in_default.ensures.areas c.in_default.ensures.acts
+
+pub returns-in-Some-clause-takes_nothing : goal.returns-in-Some-clause-takes_nothing
+returns-in-Some-clause-takes_nothing g c = λ never.
+    c.in-Some.ensures.takes_nothing (λ h. never (stands c.args.m.now c.in-Ok.i 63 c.in-Ok.ensures.instr h))
+
+pub returns-in_default-clause-takes_nothing : goal.returns-in_default-clause-takes_nothing
+returns-in_default-clause-takes_nothing g c = λ never.
+    c.in_default.ensures.takes_nothing (λ h. never (stands c.args.m.now c.in-Ok.i 63 c.in-Ok.ensures.instr h))

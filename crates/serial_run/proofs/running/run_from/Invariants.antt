@@ -1,5 +1,7 @@
 use Rattle.guest_memory.specs.Layout.{AreasLieFrom}
-use Rattle.serial_run.specs.Runs.{Keeps, configuration_of}
+use Rattle.std.proofs.Common.{◌≡◌}
+use Rattle.serial_run.specs.Serial.{State}
+use Rattle.serial_run.specs.Runs.{TellsReads, NeverCalls, Keeps, configuration_of}
 use Rattle.serial_run.specs.Table.{IsTableOf}
 use Rattle.serial_run.proofs.Runs.{RunsOn}
 use Rattle.serial_run.proofs.running.run_from.Given as goal
@@ -15,4 +17,7 @@ invariant-loop-k g l =
       keeps : Keeps before now;
       table : IsTableOf l.m.memory l.table;
       lie : AreasLieFrom 0 l.m.memory;
+      untaken : (s : State) → l.initial.m ≡ s.machine → NeverCalls 63 l.k s → l.input ≡ l.initial.input;
+      unsent : (s : State) → l.initial.m ≡ s.machine → TellsReads l.k s (source.rest l.initial.input) → NeverCalls 64 l.k s
+          → l.out ≡ l.initial.out;
     }
