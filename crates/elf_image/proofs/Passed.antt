@@ -8,7 +8,7 @@ use Rattle.elf_image.specs.declared.rules.HeaderRule.TheVariants.{SegmentSize, S
 use Rattle.elf_image.specs.declared.header.ProgramHeader.{ProgramHeader}
 use Rattle.elf_image.specs.Header.{is_elf, file_header, program_headers, program_headers_from}
 use Rattle.elf_image.specs.Layout.{load_end, total_length, in_code}
-use Rattle.elf_image.specs.Rules.{unless, first_of, file_rules, file_refusal, table_rules, breaks, makes_area, first_place, refused_at, headers_rules, headers_refusal, place_of, places_of, range_low, range_end, meet, overlap_from, overlap_or, program_rules, program_refusal}
+use Rattle.elf_image.specs.Rules.{unless, first_of, file_rules, file_refusal, table_rules, breaks, makes_area, first_place, refused_at, headers_rules, headers_refusal, place_of, places_of, meet, overlap_from, overlap_or, program_rules, program_refusal}
 use Rattle.elf_image.specs.declared.rules.ElfErr.TheVariants.{OutOfMemory}
 use Rattle.elf_image.specs.declared.image.Elf.{Elf}
 use Rattle.elf_image.specs.Reading.{refusal_of, reading_of, elf_of, IsReading}

@@ -1,6 +1,6 @@
 -- The rules that a file meets to be read as an executable, in their order. All sums are those of plain
 -- numbers.
-use Rattle.std.specs.Prelude.{ℕ, suc, ◌+◌, ◌-◌, ◌*◌, ◌/◌, ◌%◌, ◌==◌, Bool, ◌&&◌, ◌||◌, false, nat_le, nat_lt, if◌then◌else◌, List, [], ◌∷◌, length, Option, Some, None}
+use Rattle.std.specs.Prelude.{ℕ, suc, ◌+◌, ◌*◌, ◌/◌, ◌%◌, ◌==◌, Bool, ◌&&◌, ◌||◌, nat_le, nat_lt, if◌then◌else◌, List, [], ◌∷◌, length, Option, Some, None}
 use Rattle.elf_image.specs.declared.header.FileHeader.{FileHeader}
 use Rattle.elf_image.specs.declared.header.ProgramHeader.{ProgramHeader}
 use Rattle.elf_image.specs.declared.rules.ElfErr.{ElfErr}
