@@ -409,3 +409,100 @@ fn limits_are_exact(rt: HostRuntime) -> Result<(), Fail> {
     }
     Ok(())
 }
+
+// The end of the data at the end of loads; its memory together with that of the code, at the limit; and its
+// range behind that of the code. Each is accepted where it just fits, and refused one byte or word later.
+#[test]
+fn ends_of_ranges_and_sums_are_exact(rt: HostRuntime) -> Result<(), Fail> {
+    let overlap = Some(ElfErr::Overlap {
+        first: 0,
+        second: 1,
+    });
+    for (changes, want) in [
+        // p_vaddr and p_memsz of the data: it ends at 0x50000000, or a byte later
+        (
+            [
+                (136, 0xe8),
+                (137, 0xff),
+                (138, 0xff),
+                (139, 0x4f),
+                (160, 0x18),
+            ],
+            None,
+        ),
+        (
+            [
+                (136, 0xe8),
+                (137, 0xff),
+                (138, 0xff),
+                (139, 0x4f),
+                (160, 0x19),
+            ],
+            Some(ElfErr::Range { index: 1 }),
+        ),
+        // p_memsz of the data: with the 0x400 bytes of code 0x10000000 together, or 8 more
+        (
+            [(160, 0), (161, 0xfc), (162, 0xff), (163, 0x0f), (163, 0x0f)],
+            None,
+        ),
+        (
+            [(160, 1), (161, 0xfc), (162, 0xff), (163, 0x0f), (163, 0x0f)],
+            Some(ElfErr::TooMuchMemory { bytes: 0x1000_0008 }),
+        ),
+        // p_vaddr of the data: the code ends at 0x10400, or with p_memsz 0x401, widened, at 0x10408
+        ([(136, 0), (137, 4), (138, 1), (138, 1), (138, 1)], None),
+        ([(136, 7), (137, 4), (138, 1), (138, 1), (138, 1)], None),
+        (
+            [(136, 0xff), (137, 3), (138, 1), (138, 1), (138, 1)],
+            overlap,
+        ),
+        ([(136, 8), (137, 4), (138, 1), (104, 1), (138, 1)], None),
+        ([(136, 7), (137, 4), (138, 1), (104, 1), (138, 1)], overlap),
+    ] {
+        let mut bytes = six_headers(rt.alloc(), 4096)?;
+        for (place, value) in changes {
+            set_byte(&mut bytes, place, value);
+        }
+        let error = read_elf(rt.alloc(), bytes.as_slice()).err();
+        assert_eq!(rt; error, want);
+    }
+    Ok(())
+}
+
+// A file of 4096 bytes with so many load segments, of at most 64: the code, and behind it 8 bytes of data
+// each.
+fn load_headers(alloc: Global, count: u8) -> Result<Vec<u8>, AllocError> {
+    let mut bytes = Vec::new(alloc);
+    for word in &SIX_HEADERS[..30] {
+        bytes.extend_from_slice(&word.to_le_bytes())?;
+    }
+    for i in 1..count {
+        let low = 0x20000 + 16 * u32::from(i);
+        for word in [1, 6, 0, 0, low, 0, low, 0, 0, 0, 8, 0, 8, 0] {
+            bytes.extend_from_slice(&word.to_le_bytes())?;
+        }
+    }
+    bytes.resize(4096, 0)?;
+    set_byte(&mut bytes, 56, count);
+    Ok(bytes)
+}
+
+#[test]
+fn each_of_many_headers_is_read(rt: HostRuntime) -> Result<(), Fail> {
+    for count in [1, 16, 17, 33, 64] {
+        let bytes = load_headers(rt.alloc(), count)?;
+        let elf = read_elf(rt.alloc(), bytes.as_slice())?;
+        let segments = elf.segments.as_slice();
+        assert_eq!(rt; segments.len(), usize::from(count));
+        for (index, segment) in segments.iter().enumerate().skip(1) {
+            assert_eq!(rt; segment.index as usize, index, "{count}");
+            assert_eq!(rt;
+                segment.vaddr,
+                0x20000 + 16 * u64::from(segment.index),
+                "{count}"
+            );
+            assert_eq!(rt; segment.memsz, 8, "{count}");
+        }
+    }
+    Ok(())
+}
