@@ -220,3 +220,67 @@ fn refuses_long_code(rt: HostRuntime) -> Result<(), Fail> {
     assert_eq!(rt; length_with(rt.alloc(), 4_194_305)?, Err(4_194_305));
     Ok(())
 }
+
+#[test]
+fn many_entries_and_words_are_kept(rt: HostRuntime) -> Result<(), Fail> {
+    let mut entries = Vec::new(rt.alloc());
+    let mut code = Vec::new(rt.alloc());
+    for i in 0u32..150 {
+        entries.push(Entry {
+            header: 0x10078 + 4 * u64::from(i),
+            stub: 0x6000_0000 + 16 * u64::from(i),
+        })?;
+        for word in [0x13, i, 0x73, 0x6f] {
+            code.push(word)?;
+        }
+    }
+    let _elf = read_elf(rt.alloc(), &EXIT)?;
+    let bytes = write_image(rt.alloc(), &EXIT, entries.as_slice(), code.as_slice())?;
+    assert_eq!(rt; bytes.len(), 288 + 16 * 150 + 4 * 600);
+    let Split::Parts {
+        original,
+        entries: told,
+        code: words,
+    } = split_image(rt.alloc(), bytes.as_slice())?
+    else {
+        panic!(rt; "no parts");
+    };
+    assert_eq!(rt; original.as_slice(), EXIT.as_slice());
+    assert_eq!(rt; words.as_slice(), code.as_slice());
+    assert_eq!(rt; told.as_slice().len(), 150);
+    for (entry, want) in told.as_slice().iter().zip(entries.as_slice()) {
+        assert_eq!(rt; entry.header, want.header);
+        assert_eq!(rt; entry.stub, want.stub);
+    }
+    Ok(())
+}
+
+#[test]
+fn a_long_file_without_a_mark_is_plain(rt: HostRuntime) -> Result<(), Fail> {
+    let mut bytes = EXIT.to_vec(rt.alloc())?;
+    bytes.resize(1_100_001, 0)?;
+    assert_eq!(rt;
+        name_of(split_image(rt.alloc(), bytes.as_slice())?),
+        "plain"
+    );
+    Ok(())
+}
+
+#[test]
+fn refusals_have_their_texts(rt: HostRuntime) -> Result<(), Fail> {
+    for (error, want) in [
+        (
+            WriteErr::CodeTooLong { words: 4_194_305 },
+            "the added code has 4194305 words, more than 4194304",
+        ),
+        (
+            WriteErr::CodeTooLong { words: u64::MAX },
+            "the added code has 18446744073709551615 words, more than 4194304",
+        ),
+        (WriteErr::OutOfMemory, "out of memory"),
+    ] {
+        let text = format!(in rt.alloc(); "{error}")?;
+        assert_eq!(rt; text.as_str(), want);
+    }
+    Ok(())
+}
