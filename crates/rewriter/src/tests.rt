@@ -67,3 +67,16 @@ fn other_files_are_not_admitted(rt: HostRuntime) -> Result<(), Fail> {
     );
     Ok(())
 }
+
+// More than a megabyte behind the words, which no segment holds.
+#[test]
+fn long_files_are_rewritten_and_admitted(rt: HostRuntime) -> Result<(), Fail> {
+    let mut file = FILE.to_vec(rt.alloc())?;
+    file.resize(1_100_001, 0x5A)?;
+    assert!(rt; admit(rt.alloc(), file.as_slice())?.elf.entry == 0x10078);
+    let made = rewrite(rt.alloc(), file.as_slice())?;
+    assert!(rt; made.bytes.as_slice().len() == 1_100_008 + 112 + 48);
+    let image = admit(rt.alloc(), made.bytes.as_slice())?;
+    assert!(rt; image.elf.entry == 0x10078 && image.entries.as_slice().is_empty());
+    Ok(())
+}
