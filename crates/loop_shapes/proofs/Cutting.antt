@@ -7,7 +7,7 @@ use Rattle.strong_components.specs.declared.graph.Successors.{Successors}
 use Rattle.strong_components.specs.Graph.{IsEdge, LeadsTo}
 use Rattle.loop_data.specs.declared.graph.Graph.{Graph}
 use Rattle.loop_data.specs.Bodies.{IsClosed}
-use Rattle.loop_shapes.specs.Cycles.{IsOpenStep}
+use Rattle.loop_shapes.specs.Open.{IsOpenStep}
 use Rattle.loop_shapes.specs.Net.{HasClosed}
 use Rattle.loop_shapes.specs.Numbers.{AreNodes}
 use Rattle.loop_shapes.specs.Open.{IsCut, AreCutBelow, AreCut, AreOpen}

@@ -1,24 +1,30 @@
--- The one back edge and the one exit of a loop.
-use Rattle.std.proofs.Common.{◌≡◌, ◌≢◌, ℕ, ◌<◌, ◌⊎◌, ◌↔◌, ◌==◌, not, inl, inr, Bool, true, false, Option, Some, None, List, [], ◌∷◌, length, get_or, refl, ap, sym, ◌∙◌, subst, arith}
+-- The one back edge and the one exit of a loop, by places.
+use Rattle.std.proofs.Common.{◌≡◌, ◌≢◌, ℕ, ◌+◌, ◌<◌, ◌≤◌, ◌⊎◌, ◌↔◌, inl, inr, Bool, true, false, not, List, [], ◌∷◌, length, get_or, map, refl, ap, sym, ◌∙◌, subst, arith}
 use Rattle.std.specs.List.{Contains}
-use Rattle.std.specs.Option.{MatchOption, IfSome, IfNone}
-use Rattle.std.proofs.lemmas.Bool.{cases_eq, false≢true, cases_Bool}
+use Rattle.std.proofs.lemmas.Bool.{cases_eq, cases_lt, false≢true}
+use Rattle.std.proofs.lemmas.List.{get_or_default, length-map}
 use Rattle.std.proofs.lemmas.List.Elements.{Contains-get_or}
+use Rattle.strong_components.specs.declared.graph.Successors.{Successors}
+use Rattle.strong_components.specs.Graph.{IsEdge, LeadsTo}
 use Rattle.loop_data.specs.declared.graph.Graph.{Graph}
-use Rattle.loop_data.specs.Paths.{Leads, Reaches, IsWord}
-use Rattle.loop_data.specs.Sets.{IsListOf}
-use Rattle.loop_shapes.specs.Places.{count_of, at}
+use Rattle.loop_data.specs.Paths.{addresses, IsInOrder, Leads, Reaches, IsWord}
+use Rattle.loop_data.specs.Sets.{HasAtMost}
 use Rattle.loop_data.specs.Bodies.{IsClosed, InBody, InPart, ReachesPast}
-use Rattle.loop_shapes.specs.Net.{AreClosed}
-use Rattle.loop_shapes.specs.Gains.{HasAll, IsOnly}
-use Rattle.loop_shapes.specs.Edges.{IsEdgeBetween}
-use Rattle.loop_shapes.specs.Outside.{IsOutside}
 use Rattle.loop_data.specs.Shape.{IsOneBack, IsOneExit, IsSide, Leaves}
-use Rattle.loop_data.proofs.Ways.{stop, step, backward, along, wider, starts_in, ends_in}
-use Rattle.loop_shapes.proofs.Rows.{alone}
-use Rattle.loop_data.proofs.Lists.{from_in}
-use Rattle.loop_shapes.proofs.Parts.{HasPlace, place_of_source}
-use Rattle.loop_shapes.proofs.Programs.{some_number}
+use Rattle.loop_data.proofs.Lists.{In, to_in, pigeons}
+use Rattle.loop_data.proofs.Ways.{stop, step, backward, starts_in, ends_in}
+use Rattle.loop_shapes.specs.Astray.{LeadsAstray}
+use Rattle.loop_shapes.specs.Gains.{IsOnly}
+use Rattle.loop_shapes.specs.LoopBody.{LeadsIn, LeadsOut, IsLeftFrom, IsLeftOnlyFrom}
+use Rattle.loop_shapes.specs.Net.{AreAt, AreClosed, HasPart, IsAmong, IsPart}
+use Rattle.loop_shapes.specs.Numbers.{AreNodes}
+use Rattle.loop_shapes.specs.Places.{AreFlags, count_of, at}
+use Rattle.loop_shapes.specs.Sets.{AreDifferent}
+use Rattle.loop_shapes.proofs.Cutting.{node_at}
+use Rattle.loop_shapes.proofs.Parts.{HasPlace, place_of_source, place_of_word, contains_map}
+use Rattle.loop_shapes.proofs.Programs.{word_of_body}
+use Rattle.loop_shapes.proofs.Rounds.{decide}
+use Rattle.loop_shapes.proofs.Rows.{same_place}
 
 -- the place of the only closed edge's source
 pub back_by : (G : Graph) (place h : ℕ) (xs : List ℕ) (source : ℕ) → at G place ≡ h → AreClosed G place xs → IsOnly xs source → IsOneBack G h (at G source)
@@ -42,97 +48,198 @@ no_back_by G place h xs inside same_at is c none u b = none p.place (record { am
     same : (f : ℕ) → Contains xs f → f ≡ p.place
     same f m = same_at f p.place (inside f m) p.within (b.only (at G f) (subst (λ (q : ℕ). IsClosed G q (at G f)) is (c.each f m).1) ∙ sym p.is)
 
-pub no_word_no_back : (G : Graph) (h : ℕ) → ¬ IsWord G h → (u : ℕ) → ¬ IsOneBack G h u
-no_word_no_back G h absent u b = absent b.closed.word
+-- the flag that was read at a place
+pub read_flag : (flags : List Bool) (i n : ℕ) (r b : Bool) → i < n → length flags ≡ n → r ≡ get_or flags i r → r ≡ b → get_or flags i false ≡ b
+read_flag flags i n r b l c e f = sym (get_or_default flags i r false (omega arith)) ∙ sym e ∙ f
 
-leaves_by : (G : Graph) (h : ℕ) (body : List ℕ) → IsListOf (InBody G h) body → (e : ℕ × ℕ) → IsEdgeBetween G body body false e ↔ Leaves G h e.0 e.1
-leaves_by G h body is e = (
-  λ f. record { edge = f.edge; inside = is.each e.0 f.source; outside = λ b. f.chosen (is.every e.1 b) },
-  λ l. record { source = is.every e.0 l.inside; edge = l.edge; chosen = λ c. l.outside (is.each e.1 c) },
-)
+-- no edge leaves a loop from its places between these two
+pub record NoneLeft (G : Graph) (h : ℕ) (places : List ℕ) (from i : ℕ) : Type 0 where
+  pub from_on : from ≤ i
+  pub within : i ≤ length places
+  pub none : (k : ℕ) → from ≤ k → k < i → ¬ IsLeftFrom G h (at G (get_or places k 0))
 
-pub exit_by : (G : Graph) (body : List ℕ) (all : List (ℕ × ℕ)) (o : Option (ℕ × ℕ)) → HasAll (IsEdgeBetween G body body false) all → IfSome o (IsOnly all) → IfNone o ((e : ℕ × ℕ) → ¬ IsOnly all e) → (h : ℕ) → IsListOf (InBody G h) body → MatchOption o ((e : ℕ × ℕ) → ¬ IsOneExit G h e) (IsOneExit G h)
-exit_by G body all (Some e) has some none h is = record { leaves = (leaves_by G h body is e).0 (has.each e some.among); only = only }
+pub none_more : (G : Graph) (h : ℕ) (places : List ℕ) (from i : ℕ) → i < length places → ¬ IsLeftFrom G h (at G (get_or places i 0)) → NoneLeft G h places from i → NoneLeft G h places from (i + 1)
+none_more G h places from i l here n =
+    let a = n.from_on in
+    record { from_on = omega arith; within = omega arith; none = λ k m q. by k m (cases_lt k i) q }
   where
-    only : (from to : ℕ) → Leaves G h from to → (from ≡ e.0) × (to ≡ e.1)
-    only from to l =
-        let same = some.same (from, to) (has.every (from, to) ((leaves_by G h body is (from, to)).1 l)) in
-        (ap (λ (q : ℕ × ℕ). q.0) same, ap (λ (q : ℕ × ℕ). q.1) same)
-exit_by G body all None has some none h is = λ e x. none e (record { among = has.every e ((leaves_by G h body is e).1 x.leaves); same = λ f m. let s = x.only f.0 f.1 ((leaves_by G h body is f).0 (has.each f m)) in pair f e s.0 s.1 })
-  where
-    pair : (f e : ℕ × ℕ) → f.0 ≡ e.0 → f.1 ≡ e.1 → f ≡ e
-    pair f e a b = ap (λ (q : ℕ). (q, f.1)) a ∙ ap (λ (q : ℕ). (e.0, q)) b
+    by : (k : ℕ) → from ≤ k → (k < i) ⊎ (i ≤ k) → k < i + 1 → ¬ IsLeftFrom G h (at G (get_or places k 0))
+    by k m (inl q) r = n.none k m q
+    by k m (inr q) r = let e : i ≡ k = omega arith in subst (λ (z : ℕ). ¬ IsLeftFrom G h (at G (get_or places z 0))) e here
 
-pub side_by : (G : Graph) (body : List ℕ) (exit : ℕ) (all : List (ℕ × ℕ)) (b : Bool) → b ≡ (length all == 0) → HasAll (IsEdgeBetween G (exit ∷ []) body true) all → (h : ℕ) → IsListOf (InBody G h) body → (not b ≡ true) ↔ IsSide G h exit
-side_by G body exit all b e has h is = (λ t. there (n.0 t), λ s. n.1 (back s))
-  where
-    n : (not b ≡ true) ↔ (0 < length all)
-    n = some_number (length all) b e
+-- the words of a loop by their places
+module _ (G : Graph) (up : IsInOrder G) (h : ℕ) (places : List ℕ) (a : AreAt G (InBody G h) places) where
+  pub place_in : (i : ℕ) → i < count_of G → InBody G h (at G i) → Contains places i
+  place_in i l b = let m = a.every (at G i) b in subst (Contains places) (same_place (addresses G) up m.place i (a.each m.place m.among).0 l m.is) m.among
 
-    there : 0 < length all → IsSide G h exit
-    there l =
-        let f = has.each (get_or all 0 (0, 0)) (Contains-get_or all 0 (0, 0) l) in
-        record { side = (get_or all 0 (0, 0)).1; step = subst (λ (q : ℕ). Leads G q (get_or all 0 (0, 0)).1) (sym (alone exit (get_or all 0 (0, 0)).0 f.source)) f.edge; inside = is.each (get_or all 0 (0, 0)).1 f.chosen }
+  pub left_astray : (place : ℕ) → Contains places place → LeadsAstray G (at G place) → IsLeftFrom G h (at G place)
+  left_astray place c s = record { to = s.to; leaves = record { edge = s.edge; inside = (a.each place c).1; outside = λ b. s.no_word (word_of_body G h s.to b) } }
 
-    back : IsSide G h exit → 0 < length all
-    back s =
-        let c = has.every (exit, s.side) (record { source = from_in (exit ∷ []) exit (inl refl); edge = s.step; chosen = is.every s.side s.inside }) in
-        let l = c.1 in
-        omega arith
+  module _ (nodes : List Successors) (n : AreNodes G nodes) (place : ℕ) (c : Contains places place) (v : Successors) (is : v ≡ get_or nodes place v) where
+    node : (b : ℕ) → LeadsTo v b ↔ IsEdge nodes place b
+    node b = let l = (a.each place c).0 in let m = n.count in node_at nodes place b v (omega arith) is
 
--- ways inside a loop that pass neither its header nor a word, or not that word
-abbrev pub Free : ℕ → ℕ → ℕ → Type 0
-Free h exit z = (z ≢ h) × (z ≢ exit)
+    pub target_within : (b : ℕ) → LeadsTo v b → b < count_of G
+    target_within b e = (n.each place b ((node b).0 e)).1
 
-abbrev pub Inner : Graph → ℕ → ℕ → ℕ → ℕ → Type 0
-Inner G h back exit z = InPart G h back z × (z ≢ exit)
+    out_by : (to : ℕ) → LeadsTo v to → ¬ Contains places to → IsLeftFrom G h (at G place)
+    out_by to e absent =
+        let q = n.each place to ((node to).0 e) in
+        record { to = at G to; leaves = record { edge = q.2; inside = (a.each place c).1; outside = λ b. absent (place_in to q.1 b) } }
 
-abbrev pub Round : Graph → ℕ → ℕ → ℕ → ℕ → Type 0
-Round G h back exit y = Reaches (Leads G) (Free h exit) y back ⊎ Reaches (Leads G) (Inner G h back exit) h back
+    pub left_first : LeadsOut places v.first → IsLeftFrom G h (at G place)
+    left_first o = out_by o.to (inl o.is) o.absent
 
--- a way round a word, from the last time that it stands at the header
-module _ (G : Graph) (h back exit : ℕ) where
-  from_free : (y : ℕ) → Reaches (Leads G) (Free h exit) y back → Reaches (Leads G) (Inner G h back exit) y back
-  from_free y r = wider (Inner G h back exit) (λ z l. (inr (wider (λ q. q ≢ h) (λ q f. f.0) z back l.1), l.0.1)) y back (along y back r)
+    pub left_second : LeadsOut places v.second → IsLeftFrom G h (at G place)
+    left_second o = out_by o.to (inr o.is) o.absent
 
-  detour : ReachesPast G exit h back → Reaches (Leads G) (Inner G h back exit) h back
-  detour r = end (backward (Leads G) (λ z. z ≢ exit) (Round G h back exit) back base prior h r)
+    pub left_back : ¬ LeadsAstray G (at G place) → ¬ LeadsOut places v.first → IsLeftFrom G h (at G place) → LeadsOut places v.second
+    left_back stray first x = by (decide (addresses G) x.to)
+      where
+        edge : (p : HasPlace G x.to) → LeadsTo v p.place → LeadsOut places v.second
+        edge p (inl e) = absurd (first (record { to = p.place; is = e; absent = λ m. x.leaves.outside (subst (InBody G h) p.is (a.each p.place m).1) }))
+        edge p (inr e) = record { to = p.place; is = e; absent = λ m. x.leaves.outside (subst (InBody G h) p.is (a.each p.place m).1) }
+
+        by : Contains (addresses G) x.to ⊎ ¬ Contains (addresses G) x.to → LeadsOut places v.second
+        by (inl w) =
+            let p = place_of_word G x.to w in
+            edge p ((node p.place).1 (n.every place p.place (a.each place c).0 p.within (subst (Leads G (at G place)) (sym p.is) x.leaves.edge)))
+        by (inr w) = absurd (stray (record { to = x.to; edge = x.leaves.edge; no_word = w }))
+
+    in_by : (to : ℕ) → LeadsTo v to → Contains places to → IsSide G h (at G place)
+    in_by to e among =
+        let q = n.each place to ((node to).0 e) in
+        record { side = at G to; step = q.2; inside = (a.each to among).1 }
+
+    pub side_first : LeadsIn places v.first → IsSide G h (at G place)
+    side_first o = in_by o.to (inl o.is) o.among
+
+    pub side_second : LeadsIn places v.second → IsSide G h (at G place)
+    side_second o = in_by o.to (inr o.is) o.among
+
+    pub side_back : ¬ LeadsIn places v.first → IsSide G h (at G place) → LeadsIn places v.second
+    side_back first s = by ((node m.place).1 (n.every place m.place (a.each place c).0 (a.each m.place m.among).0 (subst (Leads G (at G place)) (sym m.is) s.step)))
+      where
+        m : IsAmong G places s.side
+        m = a.every s.side s.inside
+
+        by : LeadsTo v m.place → LeadsIn places v.second
+        by (inl e) = absurd (first (record { to = m.place; is = e; among = m.among }))
+        by (inr e) = record { to = m.place; is = e; among = m.among }
+
+  -- of the only two places from which edges leave, one is no such place
+  pub two_exits : AreDifferent places → (i j : ℕ) → i < j → j < length places → IsLeftFrom G h (at G (get_or places i 0)) → IsLeftFrom G h (at G (get_or places j 0)) → (x : ℕ) → ¬ IsLeftOnlyFrom G h x
+  two_exits apart i j l m p q x o =
+      let c = Contains-get_or places i 0 (omega arith) in
+      let d = Contains-get_or places j 0 m in
+      apart i j l m (same_place (addresses G) up (get_or places i 0) (get_or places j 0) (a.each (get_or places i 0) c).0 (a.each (get_or places j 0) d).0 (o.only (at G (get_or places i 0)) p ∙ sym (o.only (at G (get_or places j 0)) q)))
+
+  -- the place of the word that a leaving edge starts from
+  left_place : (x : ℕ) → IsLeftFrom G h x → (k : ℕ) × (k < length places) × (at G (get_or places k 0) ≡ x)
+  left_place x l =
+      let m = a.every x l.leaves.inside in
+      let c = m.among in
+      (c.0, c.1, ap (at G) (get_or_default places c.0 0 m.place c.1 ∙ c.2) ∙ m.is)
+
+  pub no_exit : ((k : ℕ) → k < length places → ¬ IsLeftFrom G h (at G (get_or places k 0))) → (x : ℕ) → ¬ IsLeftOnlyFrom G h x
+  no_exit none x o =
+      let p = left_place x o.left in
+      none p.0 p.1 (subst (IsLeftFrom G h) (sym p.2) o.left)
+
+  pub one_exit : (i : ℕ) → IsLeftFrom G h (at G (get_or places i 0)) → ((k : ℕ) → k < i → ¬ IsLeftFrom G h (at G (get_or places k 0))) → ((k : ℕ) → i + 1 ≤ k → k < length places → ¬ IsLeftFrom G h (at G (get_or places k 0))) → IsLeftOnlyFrom G h (at G (get_or places i 0))
+  one_exit i l before behind = record { left = l; only = λ y m. by y m (left_place y m) }
     where
-      base_by : (back ≡ h) ⊎ (back ≢ h) → (Round G h back exit) back
-      base_by (inl e) = inr (subst (λ (q : ℕ). Reaches (Leads G) (Inner G h back exit) q back) e (stop (Leads G) (Inner G h back exit) back (inl e, ends_in h back r)))
-      base_by (inr ne) = inl (stop (Leads G) (Free h exit) back (ne, ends_in h back r))
+      by : (y : ℕ) → IsLeftFrom G h y → (k : ℕ) × (k < length places) × (at G (get_or places k 0) ≡ y) → y ≡ at G (get_or places i 0)
+      by y m p = at_place (cases_eq p.0 i)
+        where
+          other : p.0 ≢ i → (p.0 < i) ⊎ (i ≤ p.0) → ⊥
+          other ne (inl q) = before p.0 q (subst (IsLeftFrom G h) (sym p.2) m)
+          other ne (inr q) = behind p.0 (omega arith) p.1 (subst (IsLeftFrom G h) (sym p.2) m)
 
-      base : (Round G h back exit) back
-      base = base_by (cases_eq back h)
+          at_place : (p.0 ≡ i) ⊎ (p.0 ≢ i) → y ≡ at G (get_or places i 0)
+          at_place (inl e) = sym p.2 ∙ ap (λ k. at G (get_or places k 0)) e
+          at_place (inr ne) = absurd (other ne (cases_lt p.0 i))
 
-      at : (x y : ℕ) → x ≢ exit → Leads G x y → Reaches (Leads G) (Free h exit) y back → (x ≡ h) ⊎ (x ≢ h) → (Round G h back exit) x
-      at x y nx lead w (inl e) = inr (subst (λ (q : ℕ). Reaches (Leads G) (Inner G h back exit) q back) e (step (Leads G) (Inner G h back exit) x y back (inl e, nx) lead (from_free y w)))
-      at x y nx lead w (inr ne) = inl (step (Leads G) (Free h exit) x y back (ne, nx) lead w)
-
-      prior : (x y : ℕ) → x ≢ exit → Leads G x y → y ≢ exit → (Round G h back exit) y → (Round G h back exit) x
-      prior x y nx lead ny (inl w) = at x y nx lead w (cases_eq x h)
-      prior x y nx lead ny (inr w) = inr w
-
-      end : (Round G h back exit) h → Reaches (Leads G) (Inner G h back exit) h back
-      end (inl w) = absurd ((starts_in h back w).0 refl)
-      end (inr w) = w
-
-pub passed_by : (G : Graph) (h back exit : ℕ) (body others reached : List ℕ) (b : Bool) → IsListOf (InBody G h) body → IsClosed G h back → IsListOf (IsOutside body (exit ∷ [])) others → HasAll (Reaches (Leads G) (Contains others) h) reached → (b ≡ true) ↔ Contains reached back → (not b ≡ true) ↔ (¬ ReachesPast G exit h back)
-passed_by G h back exit body others reached b is closed out has says = (λ t r. there t r, λ none. by (cases_Bool b) none)
+-- a word of at most two edges, of which one stays, is left by one edge
+pub one_edge : (G : Graph) (h x : ℕ) (steps : List ℕ) → length steps ≤ 2 → ((y : ℕ) → Contains steps y ↔ Leads G x y) → IsLeftOnlyFrom G h x → IsSide G h x → (to : ℕ) × IsOneExit G h (x, to)
+one_edge G h x steps few exact l s = (l.left.to, record { leaves = l.left.leaves; only = λ from to m. (l.only from (record { to = to; leaves = m }), same to (subst (λ (z : ℕ). Leaves G h z to) (l.only from (record { to = to; leaves = m })) m) (cases_eq to l.left.to)) })
   where
-    inner : (z : ℕ) → Inner G h back exit z → Contains others z
-    inner z p = out.every z (record { among = is.every z (record { source = back; closed = closed; part = p.0 }); absent = λ c. p.1 (sym (alone exit z c)) })
+    stays : (y : ℕ) → Leaves G h x y → y ≢ s.side
+    stays y m e = m.outside (subst (InBody G h) (sym e) s.inside)
 
-    past : (z : ℕ) → Contains others z → z ≢ exit
-    past z c e = (out.each z c).absent (from_in (exit ∷ []) z (inl (sym e)))
+    same : (to : ℕ) → Leaves G h x to → (to ≡ l.left.to) ⊎ (to ≢ l.left.to) → to ≡ l.left.to
+    same to m (inl e) = e
+    same to m (inr ne) =
+        let more : length (to ∷ l.left.to ∷ s.side ∷ []) ≤ length steps = pigeons (to ∷ l.left.to ∷ s.side ∷ []) steps (first, (second, ((λ i. i), tt))) inside in
+        absurd (omega arith)
+      where
+        first : In (l.left.to ∷ s.side ∷ []) to → ⊥
+        first (inl e) = ne (sym e)
+        first (inr (inl e)) = stays to m (sym e)
+        first (inr (inr i)) = i
 
-    not_true : (b : Bool) → not b ≡ true → b ≡ true → ⊥
-    not_true true t e = false≢true t
-    not_true false t e = false≢true e
+        second : In (s.side ∷ []) l.left.to → ⊥
+        second (inl e) = stays l.left.to l.left.leaves (sym e)
+        second (inr i) = i
 
-    there : not b ≡ true → ReachesPast G exit h back → ⊥
-    there t r = not_true b t (says.1 (has.every back (wider (Contains others) inner h back (detour G h back exit r))))
+        inside : (y : ℕ) → In (to ∷ l.left.to ∷ s.side ∷ []) y → In steps y
+        inside y (inl e) = to_in steps y (subst (Contains steps) e ((exact to).1 m.edge))
+        inside y (inr (inl e)) = to_in steps y (subst (Contains steps) e ((exact l.left.to).1 l.left.leaves.edge))
+        inside y (inr (inr (inl e))) = to_in steps y (subst (Contains steps) e ((exact s.side).1 s.step))
+        inside y (inr (inr (inr i))) = absurd i
 
-    by : (b ≡ true) ⊎ (b ≡ false) → (¬ ReachesPast G exit h back) → not b ≡ true
-    by (inl e) none = absurd (none (wider (λ z. z ≢ exit) past h back (has.each back (says.0 e))))
-    by (inr e) none = ap not e
+pub part_large : (G : Graph) (h u : ℕ) (found : List ℕ) (small : Bool) → small ≡ false → HasPart small G h u found → ¬ HasAtMost 256 (InPart G (at G h) (at G u))
+part_large G h u found true e p = absurd (false≢true (sym e))
+part_large G h u found false e p = p
+
+-- the header is found round the exit where a way leads from it to the back edge
+pub passed_by : (G : Graph) → IsInOrder G → (header back exit : ℕ) (found : List ℕ) (b : Bool) → IsPart G exit back found → header < count_of G → exit < count_of G → exit ≢ header → (b ≡ true) ↔ Contains found header → (not b ≡ true) ↔ (¬ ReachesPast G (at G exit) (at G header) (at G back))
+passed_by G up header back exit found b p lh le ne says = (λ t r. no b t (says.1 (there r)), λ none. yes b (λ t. none (back_way (p.each header (says.0 t)).1)))
+  where
+    there : ReachesPast G (at G exit) (at G header) (at G back) → Contains found header
+    there r =
+        let m = p.every (at G header) (inr r) in
+        subst (Contains found) (same_place (addresses G) up m.place header (p.each m.place m.among).0 lh m.is) m.among
+
+    back_way : InPart G (at G exit) (at G back) (at G header) → ReachesPast G (at G exit) (at G header) (at G back)
+    back_way (inl e) = absurd (ne (same_place (addresses G) up exit header le lh (sym e)))
+    back_way (inr r) = r
+
+    no : (b : Bool) → not b ≡ true → b ≡ true → ⊥
+    no true t e = false≢true t
+    no false t e = false≢true e
+
+    yes : (b : Bool) → (b ≡ true → ⊥) → not b ≡ true
+    yes true f = absurd (f refl)
+    yes false f = refl
+
+-- where there is none, what leads to the back edge round the exit is in the loop
+pub few_past : (G : Graph) (h back exit : ℕ) (places : List ℕ) → AreAt G (InBody G h) places → length places ≤ 256 → IsClosed G h back → InBody G h exit → ¬ ReachesPast G exit h back → HasAtMost 256 (InPart G exit back)
+few_past G h back exit places a short closed inside none = record { members = map (at G) places; bound = subst (λ n. n ≤ 256) (sym (length-map places (at G))) short; all = λ x p. let m = a.every x (by x p) in contains_map (at G) places m.place x m.among m.is }
+  where
+    Round : ℕ → Type 0
+    Round x = ReachesPast G exit x back × ReachesPast G h x back
+
+    at_header : (x : ℕ) → ReachesPast G exit x back → x ≢ h
+    at_header x r e = none (subst (λ (z : ℕ). ReachesPast G exit z back) e r)
+
+    round : (x : ℕ) → ReachesPast G exit x back → Round x
+    round x r = backward (Leads G) (λ z. z ≢ exit) Round back base prior x r
+      where
+        base : Round back
+        base =
+            let e = stop (Leads G) (λ z. z ≢ exit) back (ends_in x back r) in
+            (e, stop (Leads G) (λ z. z ≢ h) back (at_header back e))
+
+        prior : (y z : ℕ) → y ≢ exit → Leads G y z → z ≢ exit → Round z → Round y
+        prior y z ny lead nz t =
+            let e = step (Leads G) (λ z. z ≢ exit) y z back ny lead t.0 in
+            (e, step (Leads G) (λ z. z ≢ h) y z back (at_header y e) lead t.1)
+
+    by : (x : ℕ) → InPart G exit back x → InBody G h x
+    by x (inl e) = subst (InBody G h) (sym e) inside
+    by x (inr r) = record { source = back; closed = closed; part = inr (round x r).1 }
+
+-- no way round the exit starts at the exit
+pub passed_at_header : (G : Graph) (h back : ℕ) → ¬ ReachesPast G h h back
+passed_at_header G h back r = starts_in h back r refl

@@ -11,7 +11,6 @@ pub mod Programs
 pub mod Gains
 pub mod EdgeSets
 pub mod Reaching
-pub mod Pruning
 pub mod Choices
 pub mod Leaving
 pub mod Shapes
@@ -39,3 +38,7 @@ pub mod Flagged
 pub mod Unsound
 pub mod Headers
 pub mod Spreading
+pub mod Gone
+pub mod PlaceCycles
+pub mod Targets
+pub mod AddressLists

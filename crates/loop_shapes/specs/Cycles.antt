@@ -1,25 +1,19 @@
--- Cycles of edges that are not closed.
-use Rattle.std.specs.Prelude.{ℕ, ◌<◌, ◌⊎◌, List, length, slice_index, take}
+-- Taking words of a loop out.
+use Rattle.std.specs.Prelude.{ℕ, ◌≡◌, ◌<◌, ◌≤◌, ◌⊎◌, List, length, slice_index, take}
 use Rattle.std.specs.List.{Contains}
-use Rattle.loop_data.specs.declared.graph.Graph.{Graph}
-use Rattle.loop_data.specs.Paths.{Leads}
-use Rattle.loop_data.specs.Bodies.{IsClosed}
+use Rattle.strong_components.specs.declared.graph.Successors.{Successors}
+use Rattle.strong_components.specs.Graph.{IsEdge}
+use Rattle.loop_shapes.specs.LoopBody.{LeadsOnFrom}
 
--- an edge that is not closed
-pub record IsOpenStep (G : Graph) (x y : ℕ) : Type 0 where
-  pub edge : Leads G x y
-  pub open_edge : ¬ IsClosed G y x
+-- of the places those that are gone, one after another: from each of these edges lead, among the places,
+-- only to what went before
+pub record AreGone (nodes : List Successors) (places gone : List ℕ) : Type 0 where
+  pub among : (i : ℕ) → Contains gone i → Contains places i
+  pub order : (k i : ℕ) → k < length gone → IsEdge nodes (slice_index gone k) i → Contains places i → Contains (take k gone) i
 
--- such an edge leads to one of these addresses
-pub record LeadsOn (G : Graph) (left : List ℕ) (x : ℕ) : Type 0 where
-  pub to : ℕ
-  pub step : IsOpenStep G x to
-  pub among : Contains left to
-
--- of the addresses of the body those that are left, and those that are gone, one after another: from
--- each of these such edges lead in the body only to what went before
-pub record IsPruned (G : Graph) (body left : List ℕ) : Type 0 where
-  pub gone : List ℕ
-  pub kept : (x : ℕ) → Contains left x → Contains body x
-  pub split : (x : ℕ) → Contains body x → Contains left x ⊎ Contains gone x
-  pub order : (k y : ℕ) → k < length gone → IsOpenStep G (slice_index gone k) y → Contains body y → Contains (take k gone) y
+-- more of the places are gone: each of the tried ones from which no edge leads on
+pub record HasGone (nodes : List Successors) (places : List ℕ) (Tried : ℕ → Type 0) (old new : List ℕ) : Type 0 where
+  pub longer : length old ≤ length new
+  pub same : (k : ℕ) → k < length old → slice_index new k ≡ slice_index old k
+  pub gone : AreGone nodes places old → AreGone nodes places new
+  pub tried : (i : ℕ) → Tried i → Contains places i → Contains new i ⊎ LeadsOnFrom nodes places old i

@@ -20,4 +20,7 @@ pub mod Around
 pub mod Open
 pub mod Marks
 pub mod Nested
+pub mod PlaceSet
+pub mod Astray
+pub mod LoopBody
 pub mod StartFlags

@@ -4,8 +4,14 @@ use Rattle.std.specs.List.{Contains}
 use Rattle.strong_components.specs.declared.graph.Successors.{Successors}
 use Rattle.strong_components.specs.Graph.{IsEdge}
 use Rattle.loop_data.specs.declared.graph.Graph.{Graph}
-use Rattle.loop_shapes.specs.Cycles.{IsOpenStep}
+use Rattle.loop_data.specs.Paths.{Leads}
+use Rattle.loop_data.specs.Bodies.{IsClosed}
 use Rattle.loop_shapes.specs.Places.{count_of, at, in_row}
+
+-- an edge that is not closed
+pub record IsOpenStep (G : Graph) (x y : ℕ) : Type 0 where
+  pub edge : Leads G x y
+  pub open_edge : ¬ IsClosed G y x
 
 -- the edges to one place from some
 pub record IsCut (to : ℕ) (from : List ℕ) (old new : List Successors) : Type 0 where

@@ -6,6 +6,8 @@ use Rattle.loop_shapes.specs.Around.{AreAround}
 use Rattle.loop_shapes.specs.Numbers.{AreNodes}
 use Rattle.loop_shapes.specs.Open.{AreOpen}
 use Rattle.loop_shapes.specs.Rows.{rows}
+use Rattle.loop_shapes.specs.Astray.{LeadsAstray}
+use Rattle.loop_shapes.specs.Places.{AreFlags}
 
 -- the graph of the program
 abbrev pub program_graph : Program → Graph
@@ -18,3 +20,4 @@ pub record IsProgram (p : Program) : Type 0 where
   pub around : AreAround (program_graph p) p.around
   pub next : AreNodes (program_graph p) p.next.items
   pub open_edges : AreOpen (program_graph p) p.open_next.items
+  pub astray : AreFlags (program_graph p) (LeadsAstray (program_graph p)) p.astray.items

@@ -1,7 +1,7 @@
 ghost use Rattle.std.specs.Prelude.{◌≡◌, ◌<◌, ◌++◌, ℕ, IfOk, OnOk, length, map, slice_index};
 ghost use Rattle.std.specs.List.{Contains};
 ghost use Rattle.loop_data.specs.Bodies.{IsClosed, InBody, InPart};
-ghost use Rattle.loop_shapes.specs.Net.{IsNet, AreClosed, HasMore, IsUnion, graph_of};
+ghost use Rattle.loop_shapes.specs.Net.{IsNet, AreClosed, HasMore, IsAmong, IsUnion, graph_of};
 ghost use Rattle.loop_shapes.specs.Places.{at, count_of};
 ghost use Rattle.loop_data.specs.Sets.{IsListOf};
 
@@ -98,4 +98,15 @@ pub fn body_of(
     ensures { IfOk result (λ v. IsListOf (InBody (graph_of net.now) (at (graph_of net.now) header)) v.items) }
 {
     Ok(in_order(all_parts(alloc, net, slots, found, header, closed)?))
+}
+
+/// The addresses at some places, in order.
+pub fn addresses_at(alloc: Global, net: &Net, places: &[usize]) -> Result<Vec<u64>, AllocError>
+    requires net { IsNet net.now }
+    requires within { (i : ℕ) → Contains places.now i → i < count_of (graph_of net.now) }
+    ensures { IfOk result (λ v. IsListOf (IsAmong (graph_of net.now) places.now) v.items) }
+{
+    let mut all = Vec::new(alloc);
+    push_addresses(net.at.as_slice(), places, &mut all)?;
+    Ok(in_order(all))
 }

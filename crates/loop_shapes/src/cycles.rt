@@ -1,97 +1,108 @@
-ghost use Rattle.std.specs.Prelude.{◌≡◌, ◌↔◌, ◌<◌, ◌≤◌, ℕ, List, IfOk, IsTrue, length, vec_len};
+ghost use Rattle.std.specs.Prelude.{◌≡◌, ◌↔◌, ◌<◌, ℕ, Some, IfOk, OnOk, IsTrue, length};
 ghost use Rattle.std.specs.List.{Contains};
-ghost use Rattle.loop_data.specs.Bodies.{IsClosed, InBody};
-ghost use Rattle.loop_shapes.specs.Cycles.{LeadsOn, IsPruned};
-ghost use Rattle.loop_shapes.specs.Program.{IsProgram, program_graph};
-ghost use Rattle.loop_data.specs.Sets.{IsListOf};
+ghost use Rattle.loop_data.specs.Bodies.{InBody};
 ghost use Rattle.loop_data.specs.Shape.{IsForward, IsOnCycle};
+ghost use Rattle.loop_shapes.specs.Cycles.{HasGone};
+ghost use Rattle.loop_shapes.specs.LoopBody.{IsLoopBody, LeadsOn, LeadsOnFrom, body_graph, header_of};
+ghost use Rattle.loop_shapes.specs.PlaceSet.{IsPlaceSet};
+ghost use Rattle.loop_shapes.specs.Places.{count_of};
 
-use crate::program::{Program, has, is_closed_edge, steps_of};
-use std::alloc::{AllocError, Global};
+use crate::loop_body::LoopBody;
+use crate::place_set::PlaceSet;
+use crate::places::row_at;
+use std::alloc::AllocError;
 
-// Whether an edge is not closed and leads to one of the addresses that are left.
-fn is_step_on(program: &Program, left: &[u64], x: u64, y: u64) -> bool
-    requires { IsProgram program.now }
-    ensures { IsTrue result ↔ (Contains left.now y × ¬ IsClosed (program_graph program.now) y x) }
+// Whether the word at a place is in a loop and not gone.
+fn is_left(body: &LoopBody, gone: &PlaceSet, place: usize) -> bool
+    requires body { IsLoopBody body.now }
+    requires gone { IsPlaceSet (count_of (body_graph body.now)) gone.now }
+    requires within { place < count_of (body_graph body.now) }
+    ensures { IsTrue result ↔ (Contains body.now.places.now place × ¬ Contains gone.now.found.items place) }
 {
-    has(left, y) && !is_closed_edge(program, y, x)
-}
-
-// Whether an edge that is not closed leads from an address to one of those that are left.
-fn leads_on(program: &Program, left: &[u64], x: u64) -> bool
-    requires { IsProgram program.now }
-    ensures { IsTrue result ↔ LeadsOn (program_graph program.now) left.now x }
-{
-    for y in steps_of(&program.net, x) {
-        if is_step_on(program, left, x, *y) {
-            return true;
-        }
+    if !body.has(place) {
+        return false;
     }
-    false
+    !gone.has(place)
 }
 
-// Takes out the addresses from which no such edge leads on, from the last to the first.
-fn prune(program: &Program, left: &mut Vec<u64>)
-    requires { IsProgram program.now }
-    ensures pruned { (body : List ℕ) → IsPruned (program_graph program.now) body left.old.items
-        → IsPruned (program_graph program.now) body left.new.items }
-    ensures fewer { length left.new.items ≤ length left.old.items }
-    ensures stuck { length left.new.items ≡ length left.old.items
-        → (x : ℕ) → Contains left.new.items x → LeadsOn (program_graph program.now) left.new.items x }
+// Whether a step leads to a word of a loop that is not gone.
+fn is_step_on(body: &LoopBody, gone: &PlaceSet, target: Option<u32>) -> bool
+    requires body { IsLoopBody body.now }
+    requires gone { IsPlaceSet (count_of (body_graph body.now)) gone.now }
+    requires within { (b : ℕ) → target ≡ Some b → b < count_of (body_graph body.now) }
+    ensures { IsTrue result ↔ LeadsOn body.now.places.now gone.now.found.items target }
 {
-    let mut i = left.len();
-    while i > 0 {
-        i -= 1;
-        let x = left[i];
-        if !leads_on(program, left, x) {
-            left.remove(i);
-        }
+    match target {
+        Some(node) => is_left(body, gone, node as usize),
+        None => false,
     }
 }
 
-// Takes out addresses from which no such edge leads on, from the first to the last.
-fn prune_up(program: &Program, left: &mut Vec<u64>)
-    requires { IsProgram program.now }
-    ensures pruned { (body : List ℕ) → IsPruned (program_graph program.now) body left.old.items
-        → IsPruned (program_graph program.now) body left.new.items }
-    ensures fewer { length left.new.items ≤ length left.old.items }
+// Whether an edge that is not closed leads from a word to one of a loop that is not gone.
+fn leads_on(body: &LoopBody, gone: &PlaceSet, place: usize) -> bool
+    requires body { IsLoopBody body.now }
+    requires gone { IsPlaceSet (count_of (body_graph body.now)) gone.now }
+    requires within { place < count_of (body_graph body.now) }
+    ensures { IsTrue result ↔ LeadsOnFrom body.now.program.now.open_next.items body.now.places.now gone.now.found.items place }
 {
-    let mut i = 0;
-    while i < left.len() {
-        let x = left[i];
-        if leads_on(program, left, x) {
-            i += 1;
-        } else {
-            left.remove(i);
-        }
+    let node = body.program.open_next[place];
+    if is_step_on(body, gone, node.first) {
+        return true;
     }
+    is_step_on(body, gone, node.second)
 }
 
-// Takes out addresses until such an edge leads on from each that is left: in one direction and then the
-// other, since words that run on are mostly laid out one way.
-fn prune_all(program: &Program, left: &mut Vec<u64>)
-    requires { IsProgram program.now }
-    ensures pruned { (body : List ℕ) → IsPruned (program_graph program.now) body left.old.items
-        → IsPruned (program_graph program.now) body left.new.items }
-    ensures stuck { (x : ℕ) → Contains left.new.items x → LeadsOn (program_graph program.now) left.new.items x }
+// Takes a word of a loop out, where it is not gone and no such edge leads on from it.
+fn take_out(body: &LoopBody, gone: &mut PlaceSet, place: usize) -> Result<(), AllocError>
+    requires body { IsLoopBody body.now }
+    requires gone { IsPlaceSet (count_of (body_graph body.now)) gone.old }
+    requires within { place < count_of (body_graph body.now) }
+    ensures gone { OnOk result (IsPlaceSet (count_of (body_graph body.now)) gone.new) }
+    ensures more { OnOk result (HasGone body.now.program.now.open_next.items body.now.places.now (λ i. i ≡ place) gone.old.found.items gone.new.found.items) }
 {
-    loop {
-        let before = left.len();
-        prune_up(program, left);
-        prune(program, left);
-        if left.len() == before {
-            return;
-        }
+    if !is_left(body, gone, place) {
+        return Ok(());
     }
+    if leads_on(body, gone, place) {
+        return Ok(());
+    }
+    gone.add(place)?;
+    Ok(())
 }
 
-/// Whether the body of a loop has no cycle but through back edges.
-pub fn is_acyclic(alloc: Global, program: &Program, body: &[u64]) -> Result<bool, AllocError>
-    requires { IsProgram program.now }
-    ensures { IfOk result (λ b. (h : ℕ) → IsListOf (InBody (program_graph program.now) h) body.now
-        → IsTrue b ↔ ((x : ℕ) → ¬ IsOnCycle (IsForward (program_graph program.now) h) (InBody (program_graph program.now) h) x)) }
+// Takes those of these words out.
+fn take_out_all(body: &LoopBody, gone: &mut PlaceSet, places: &[usize]) -> Result<(), AllocError>
+    requires body { IsLoopBody body.now }
+    requires gone { IsPlaceSet (count_of (body_graph body.now)) gone.old }
+    requires within { (i : ℕ) → Contains places.now i → i < count_of (body_graph body.now) }
+    ensures gone { OnOk result (IsPlaceSet (count_of (body_graph body.now)) gone.new) }
+    ensures more { OnOk result (HasGone body.now.program.now.open_next.items body.now.places.now (Contains places.now) gone.old.found.items gone.new.found.items) }
 {
-    let mut left = Vec::from_slice(alloc, body)?;
-    prune_all(program, &mut left);
-    Ok(left.is_empty())
+    for place in places {
+        take_out(body, gone, *place)?;
+    }
+    Ok(())
+}
+
+/// Whether a loop has no cycle but through back edges. Words from which no other edge leads on are taken
+/// out, then those that lead to them, and so on; words of a cycle are left.
+pub fn is_acyclic(body: &LoopBody, gone: &mut PlaceSet) -> Result<bool, AllocError>
+    requires body { IsLoopBody body.now }
+    requires gone { IsPlaceSet (count_of (body_graph body.now)) gone.old }
+    ensures acyclic { IfOk result (λ b. IsTrue b ↔ ((x : ℕ) → ¬ IsOnCycle (IsForward (body_graph body.now) (header_of body.now))
+        (InBody (body_graph body.now) (header_of body.now)) x)) }
+    ensures gone { OnOk result (IsPlaceSet (count_of (body_graph body.now)) gone.new) }
+{
+    gone.clear();
+    take_out_all(body, gone, body.places)?;
+    let mut next = 0;
+    while next < gone.found.len() {
+        if gone.found.len() == body.places.len() {
+            return Ok(true);
+        }
+        let at = gone.found[next];
+        take_out_all(body, gone, row_at(body.program.net.before.as_slice(), at))?;
+        next += 1;
+    }
+    Ok(gone.found.len() == body.places.len())
 }

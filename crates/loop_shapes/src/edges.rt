@@ -65,30 +65,6 @@ pub fn edges(
     Ok(all)
 }
 
-// Whether two edges are the same.
-fn is_same(a: (u64, u64), b: (u64, u64)) -> bool
-    ensures { IsTrue result ↔ (a ≡ b) }
-{
-    a.0 == b.0 && a.1 == b.1
-}
-
-/// The only edge among these.
-pub fn only_edge(all: &[(u64, u64)]) -> Option<(u64, u64)>
-    ensures some { IfSome result (IsOnly all.now) }
-    ensures none { IfNone result ((e : ℕ × ℕ) → ¬ IsOnly all.now e) }
-{
-    if all.is_empty() {
-        return None;
-    }
-    let e = all[0];
-    for f in all {
-        if !is_same(*f, e) {
-            return None;
-        }
-    }
-    Some(e)
-}
-
 /// The only place among these.
 pub fn only_place(all: &[usize]) -> Option<usize>
     ensures some { IfSome result (IsOnly all.now) }

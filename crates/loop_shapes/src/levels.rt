@@ -1,21 +1,23 @@
-ghost use Rattle.std.specs.Prelude.{◌≡◌, ◌<◌, ℕ, IfOk, length, [], Some, None};
+ghost use Rattle.std.specs.Prelude.{◌≡◌, ◌<◌, ℕ, IfOk, OnOk, length, [], Some, None};
 ghost use Rattle.std.specs.List.{Contains};
 ghost use Rattle.loop_data.specs.Bodies.{IsHeader, InBody};
 ghost use Rattle.loop_data.specs.Loops.{IsLevel, AreLevels, IsSoundNest, IsLoop};
 ghost use Rattle.loop_shapes.specs.Marks.{AreMarks};
+ghost use Rattle.loop_shapes.specs.PlaceSet.{IsPlaceSet};
 ghost use Rattle.loop_shapes.specs.Places.{at, count_of};
 ghost use Rattle.loop_shapes.specs.Program.{IsProgram, program_graph};
 ghost use Rattle.loop_data.specs.Sets.{IsListOf};
 ghost use Rattle.loop_data.specs.Shape.{InNest};
 
-use crate::body::in_order;
+use crate::body::{addresses_at, in_order};
 use crate::early::early_verdict;
 use crate::marks::Marks;
 use crate::nest::{headers_of, is_small_nest, round_of};
-use crate::net::address_of;
-use crate::program::{Program, body_at, find_body};
+use crate::net::{address_of, find};
+use crate::place_set::PlaceSet;
+use crate::program::{Program, find_body};
 use crate::sets::minus;
-use crate::shape::own_shape;
+use crate::shape::own_shape_at;
 use loop_data::{Addresses, Level, Levels, LoopShape, Verdict};
 use std::alloc::{AllocError, Global};
 
@@ -25,28 +27,37 @@ fn level(
     program: &Program,
     slots: &mut [usize],
     found: &mut Vec<usize>,
+    others: &mut PlaceSet,
     nest: &[u64],
     x: u64,
 ) -> Result<Level, AllocError>
     requires program { IsProgram program.now }
     requires count { length slots.old ≡ count_of (program_graph program.now) }
+    requires others { IsPlaceSet (count_of (program_graph program.now)) others.old }
     requires nest { IsSoundNest (program_graph program.now) nest.now }
     requires among { Contains nest.now x }
     ensures header { IfOk result (λ l. l.header ≡ x) }
     ensures level { IfOk result (λ l. (h : ℕ) → IsListOf (InNest (program_graph program.now) h) nest.now
         → IsLevel (program_graph program.now) h l) }
+    ensures others { OnOk result (IsPlaceSet (count_of (program_graph program.now)) others.new) }
 {
-    let body = body_at(alloc, program, slots, found, x)?;
-    let Some(shape) = own_shape(alloc, program, body.as_slice(), x)? else {
+    let Some(place) = find(&program.net, x) else {
         unreachable!()
     };
+    if !find_body(program, slots, found, place)? {
+        unreachable!()
+    }
+    let Some(shape) = own_shape_at(program, slots, found, others, place)? else {
+        unreachable!()
+    };
+    let body = addresses_at(alloc, &program.net, found)?;
     let round = round_of(alloc, program, slots, found, nest, x)?;
     let depth = round.len() as u32;
     Ok(Level {
         header: x,
         body: Addresses::new(body),
-        back: shape.0,
-        exit: shape.1,
+        back: address_of(&program.net, shape.0),
+        exit: address_of(&program.net, shape.1),
         depth,
     })
 }
@@ -57,21 +68,24 @@ fn levels_of(
     program: &Program,
     slots: &mut [usize],
     found: &mut Vec<usize>,
+    others: &mut PlaceSet,
     nest: &[u64],
     header: u64,
 ) -> Result<Vec<Level>, AllocError>
     requires program { IsProgram program.now }
     requires count { length slots.old ≡ count_of (program_graph program.now) }
+    requires others { IsPlaceSet (count_of (program_graph program.now)) others.old }
     requires nest { IsSoundNest (program_graph program.now) nest.now }
     requires is { IsListOf (InNest (program_graph program.now) header) nest.now }
     requires among { Contains nest.now header }
-    ensures { IfOk result (λ v. AreLevels (program_graph program.now) header v.items) }
+    ensures levels { IfOk result (λ v. AreLevels (program_graph program.now) header v.items) }
+    ensures others { OnOk result (IsPlaceSet (count_of (program_graph program.now)) others.new) }
 {
     let inner = minus(alloc, nest, &[header])?;
     let mut all = Vec::new(alloc);
-    all.push(level(alloc, program, slots, found, nest, header)?)?;
+    all.push(level(alloc, program, slots, found, others, nest, header)?)?;
     for x in inner.as_slice() {
-        all.push(level(alloc, program, slots, found, nest, *x)?)?;
+        all.push(level(alloc, program, slots, found, others, nest, *x)?)?;
     }
     Ok(all)
 }
@@ -96,15 +110,18 @@ pub fn loop_at(
     marks: &Marks,
     slots: &mut [usize],
     found: &mut Vec<usize>,
+    others: &mut PlaceSet,
     place: usize,
 ) -> Result<LoopShape, AllocError>
     requires program { IsProgram program.now }
     requires count { length slots.old ≡ count_of (program_graph program.now) }
+    requires others { IsPlaceSet (count_of (program_graph program.now)) others.old }
     requires marks { AreMarks (program_graph program.now) marks.now }
     requires within { place < count_of (program_graph program.now) }
     requires header { IsHeader (program_graph program.now) (at (program_graph program.now) place) }
     ensures header { IfOk result (λ s. s.header ≡ at (program_graph program.now) place) }
     ensures is { IfOk result (IsLoop (program_graph program.now)) }
+    ensures others { OnOk result (IsPlaceSet (count_of (program_graph program.now)) others.new) }
 {
     let header = address_of(&program.net, place);
     if !find_body(program, slots, found, place)? {
@@ -120,7 +137,15 @@ pub fn loop_at(
     if !is_small_nest(alloc, program, slots, found, nest.as_slice())? {
         return Ok(judged(alloc, header, Verdict::Limit { at: header }));
     }
-    let levels = levels_of(alloc, program, slots, found, nest.as_slice(), header)?;
+    let levels = levels_of(
+        alloc,
+        program,
+        slots,
+        found,
+        others,
+        nest.as_slice(),
+        header,
+    )?;
     Ok(LoopShape {
         header,
         levels: Levels::new(levels),

@@ -6,6 +6,7 @@ ghost use Rattle.loop_data.specs.Listed.{IsListed};
 ghost use Rattle.loop_data.specs.Loops.{AreLoops};
 ghost use Rattle.loop_shapes.specs.Net.{IsNet, graph_of};
 ghost use Rattle.loop_data.specs.Paths.{IsInOrder};
+ghost use Rattle.loop_shapes.specs.PlaceSet.{IsPlaceSet};
 ghost use Rattle.loop_shapes.specs.Places.{at, count_of};
 ghost use Rattle.loop_shapes.specs.Program.{IsProgram, program_graph};
 ghost use Rattle.loop_shapes.specs.Rows.{rows};
@@ -18,6 +19,7 @@ use crate::marks::{Marks, marks_of};
 use crate::nest::shape_flags;
 use crate::net::{Net, address_of, net_of};
 use crate::numbers::numbers_of;
+use crate::place_set::PlaceSet;
 use crate::places::row_at;
 use crate::program::{Program, is_header_at, program_of};
 use loop_data::{Graph, LoopShape};
@@ -31,17 +33,20 @@ fn shape_at(
     listed: &[Vec<usize>],
     slots: &mut [usize],
     found: &mut Vec<usize>,
+    others: &mut PlaceSet,
     place: usize,
 ) -> Result<Option<LoopShape>, AllocError>
     requires program { IsProgram program.now }
     requires marks { AreMarks (program_graph program.now) marks.now }
     requires listed { AreRowsOf (program_graph program.now) (IsListed (program_graph program.now)) (rows listed.now) }
     requires count { length slots.old ≡ count_of (program_graph program.now) }
+    requires others { IsPlaceSet (count_of (program_graph program.now)) others.old }
     requires within { place < count_of (program_graph program.now) }
-    ensures { IfOk result (HasShapeAt (program_graph program.now) (at (program_graph program.now) place)) }
+    ensures shape { IfOk result (HasShapeAt (program_graph program.now) (at (program_graph program.now) place)) }
+    ensures others { OnOk result (IsPlaceSet (count_of (program_graph program.now)) others.new) }
 {
     if is_header_at(program, place) {
-        let shape = loop_at(alloc, program, marks, slots, found, place)?;
+        let shape = loop_at(alloc, program, marks, slots, found, others, place)?;
         return Ok(Some(shape));
     }
     let x = address_of(&program.net, place);
@@ -66,6 +71,7 @@ fn add_shape(
     listed: &[Vec<usize>],
     slots: &mut [usize],
     found: &mut Vec<usize>,
+    others: &mut PlaceSet,
     place: usize,
     all: &mut Vec<LoopShape>,
 ) -> Result<(), AllocError>
@@ -73,11 +79,13 @@ fn add_shape(
     requires marks { AreMarks (program_graph program.now) marks.now }
     requires listed { AreRowsOf (program_graph program.now) (IsListed (program_graph program.now)) (rows listed.now) }
     requires count { length slots.old ≡ count_of (program_graph program.now) }
+    requires others { IsPlaceSet (count_of (program_graph program.now)) others.old }
     requires within { place < count_of (program_graph program.now) }
     requires below { AreLoopsBelow (program_graph program.now) place all.old.items }
-    ensures { OnOk result (AreLoopsBelow (program_graph program.now) (place + 1) all.new.items) }
+    ensures below { OnOk result (AreLoopsBelow (program_graph program.now) (place + 1) all.new.items) }
+    ensures others { OnOk result (IsPlaceSet (count_of (program_graph program.now)) others.new) }
 {
-    match shape_at(alloc, program, marks, listed, slots, found, place)? {
+    match shape_at(alloc, program, marks, listed, slots, found, others, place)? {
         Some(shape) => {
             all.push(shape)?;
             Ok(())
@@ -99,7 +107,8 @@ fn shapes_of(
     ensures { IfOk result (λ v. AreLoops (program_graph program.now) v.items) }
 {
     let numbers = numbers_of(alloc, &program.net)?;
-    let shaped = shape_flags(alloc, program, slots, found)?;
+    let mut others = PlaceSet::new(alloc, program.net.at.len())?;
+    let shaped = shape_flags(alloc, program, slots, found, &mut others)?;
     let marks = marks_of(alloc, program, shaped.as_slice(), slots, found)?;
     let listed = listed_rows(alloc, program, numbers.as_slice())?;
     let mut all = Vec::new(alloc);
@@ -111,6 +120,7 @@ fn shapes_of(
             listed.as_slice(),
             slots,
             found,
+            &mut others,
             place,
             &mut all,
         )?;

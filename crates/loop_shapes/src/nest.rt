@@ -5,6 +5,7 @@ ghost use Rattle.loop_data.specs.Early.{IsRound, IsSmallNest};
 ghost use Rattle.loop_shapes.specs.Gains.{Gained, HasAll};
 ghost use Rattle.loop_shapes.specs.Net.{AreAt};
 ghost use Rattle.loop_shapes.specs.Nested.{HasTriedHeader};
+ghost use Rattle.loop_shapes.specs.PlaceSet.{IsPlaceSet};
 ghost use Rattle.loop_shapes.specs.Places.{AreFlags, at, count_of};
 ghost use Rattle.loop_shapes.specs.Program.{IsProgram, program_graph};
 ghost use Rattle.loop_shapes.specs.Search.{IsIndexed};
@@ -13,24 +14,33 @@ ghost use Rattle.loop_data.specs.Shape.{IsShaped, InNest};
 
 use crate::body::in_order;
 use crate::net::address_of;
-use crate::program::{Program, body_at, is_among, is_header_at};
-use crate::shape::own_shape;
+use crate::place_set::PlaceSet;
+use crate::program::{Program, body_at, find_body, is_among, is_header_at};
+use crate::shape::own_shape_at;
 use std::alloc::{AllocError, Global};
 
-// Whether a loop has the shape, whatever its inner loops have.
+// Whether the loop at a place has the shape, whatever its inner loops have.
 fn is_shaped(
-    alloc: Global,
     program: &Program,
     slots: &mut [usize],
     found: &mut Vec<usize>,
-    x: u64,
+    others: &mut PlaceSet,
+    place: usize,
 ) -> Result<bool, AllocError>
     requires program { IsProgram program.now }
     requires count { length slots.old ≡ count_of (program_graph program.now) }
-    ensures { IfOk result (λ b. IsTrue b ↔ IsShaped (program_graph program.now) x) }
+    requires others { IsPlaceSet (count_of (program_graph program.now)) others.old }
+    requires within { place < count_of (program_graph program.now) }
+    ensures shaped { IfOk result (λ b. IsTrue b ↔ IsShaped (program_graph program.now) (at (program_graph program.now) place)) }
+    ensures others { OnOk result (IsPlaceSet (count_of (program_graph program.now)) others.new) }
 {
-    let body = body_at(alloc, program, slots, found, x)?;
-    match own_shape(alloc, program, body.as_slice(), x)? {
+    if !is_header_at(program, place) {
+        return Ok(false);
+    }
+    if !find_body(program, slots, found, place)? {
+        return Ok(false);
+    }
+    match own_shape_at(program, slots, found, others, place)? {
         Some(_) => Ok(true),
         None => Ok(false),
     }
@@ -42,15 +52,17 @@ pub fn shape_flags(
     program: &Program,
     slots: &mut [usize],
     found: &mut Vec<usize>,
+    others: &mut PlaceSet,
 ) -> Result<Vec<bool>, AllocError>
     requires program { IsProgram program.now }
     requires count { length slots.old ≡ count_of (program_graph program.now) }
-    ensures { IfOk result (λ v. AreFlags (program_graph program.now) (IsShaped (program_graph program.now)) v.items) }
+    requires others { IsPlaceSet (count_of (program_graph program.now)) others.old }
+    ensures flags { IfOk result (λ v. AreFlags (program_graph program.now) (IsShaped (program_graph program.now)) v.items) }
+    ensures others { OnOk result (IsPlaceSet (count_of (program_graph program.now)) others.new) }
 {
     let mut all = Vec::new(alloc);
     for place in 0..program.net.at.len() {
-        let x = address_of(&program.net, place);
-        all.push(is_shaped(alloc, program, slots, found, x)?)?;
+        all.push(is_shaped(program, slots, found, others, place)?)?;
     }
     Ok(all)
 }

@@ -1,9 +1,10 @@
-ghost use Rattle.std.specs.Prelude.{◌≡◌, ◌↔◌, ◌<◌, ◌≤◌, ◌^◌, ℕ, IfOk, IfSome, IfNone, length, slice_index};
+ghost use Rattle.std.specs.Prelude.{◌≡◌, ◌↔◌, ◌<◌, ◌≤◌, ◌^◌, ℕ, IfOk, IfSome, IfNone, IsTrue, length, slice_index};
 ghost use Rattle.std.specs.List.{Contains};
+ghost use Rattle.loop_shapes.specs.Astray.{LeadsAstray};
 ghost use Rattle.loop_shapes.specs.Net.{IsNet, graph_of};
 ghost use Rattle.loop_shapes.specs.Numbers.{AreNodes, AreNumbers};
 ghost use Rattle.loop_data.specs.Paths.{IsWord, Leads};
-ghost use Rattle.loop_shapes.specs.Places.{at, count_of};
+ghost use Rattle.loop_shapes.specs.Places.{AreFlags, at, count_of};
 ghost use Rattle.strong_components.specs.Graph.{LeadsTo};
 
 use crate::net::{Net, find};
@@ -61,6 +62,43 @@ pub fn nodes(alloc: Global, net: &Net) -> Result<Vec<Successors>, AllocError>
     let mut all = Vec::new(alloc);
     for place in 0..net.at.len() {
         all.push(successors_at(net, place))?;
+    }
+    Ok(all)
+}
+
+// Whether a word stands at an address.
+fn is_word(net: &Net, x: u64) -> bool
+    requires { IsNet net.now }
+    ensures { IsTrue result ↔ IsWord (graph_of net.now) x }
+{
+    match find(net, x) {
+        Some(_) => true,
+        None => false,
+    }
+}
+
+// Whether a step edge leads to no word from the word at a place.
+fn leads_astray(net: &Net, place: usize) -> bool
+    requires net { IsNet net.now }
+    requires within { place < count_of (graph_of net.now) }
+    ensures { IsTrue result ↔ LeadsAstray (graph_of net.now) (at (graph_of net.now) place) }
+{
+    for y in word_steps(net, place) {
+        if !is_word(net, *y) {
+            return true;
+        }
+    }
+    false
+}
+
+/// From which words step edges lead to no word.
+pub fn astray_flags(alloc: Global, net: &Net) -> Result<Vec<bool>, AllocError>
+    requires { IsNet net.now }
+    ensures { IfOk result (λ v. AreFlags (graph_of net.now) (LeadsAstray (graph_of net.now)) v.items) }
+{
+    let mut all = Vec::new(alloc);
+    for place in 0..net.at.len() {
+        all.push(leads_astray(net, place))?;
     }
     Ok(all)
 }

@@ -1,7 +1,7 @@
 ghost use Rattle.std.specs.Prelude.{◌≡◌, ◌↔◌, ◌<◌, ◌^◌, ℕ, IfOk, OnOk, IfSome, IfNone, IsTrue, length};
 ghost use Rattle.std.specs.List.{Contains};
 ghost use Rattle.std.specs.List.Sorted.{IsStrictlyIncreasing};
-ghost use Rattle.loop_data.specs.Bodies.{IsClosed, IsHeader, InBody};
+ghost use Rattle.loop_data.specs.Bodies.{IsHeader, InBody};
 ghost use Rattle.loop_shapes.specs.Net.{IsNet, AreClosed, HasBody, graph_of};
 ghost use Rattle.loop_data.specs.Paths.{Leads};
 ghost use Rattle.loop_shapes.specs.Places.{at, count_of};
@@ -13,7 +13,7 @@ use crate::around::{Around, none_around};
 use crate::body::body_of;
 use crate::closed::closed_rows;
 use crate::net::{Net, find};
-use crate::numbers::nodes;
+use crate::numbers::{astray_flags, nodes};
 use crate::open::without;
 use crate::places::{place_of, row_at};
 use crate::search::search;
@@ -33,6 +33,8 @@ pub struct Program<'a> {
     pub next: Vec<Successors>,
     /// Where those lead that are not closed.
     pub open_next: Vec<Successors>,
+    /// From which words step edges lead to no word.
+    pub astray: Vec<bool>,
 }
 
 /// The program of a net.
@@ -52,12 +54,14 @@ pub fn program_of<'a>(
     let closed = closed_rows(alloc, &net, slots, found, &mut around)?;
     let next = nodes(alloc, &net)?;
     let open_next = without(alloc, next.as_slice(), closed.as_slice())?;
+    let astray = astray_flags(alloc, &net)?;
     Ok(Program {
         net,
         closed,
         around,
         next,
         open_next,
+        astray,
     })
 }
 
@@ -99,17 +103,6 @@ pub fn sources_of<'a>(program: &'a Program, place: usize) -> &'a [usize]
     row_at(program.closed.as_slice(), place)
 }
 
-/// Whether a loop stands at an address.
-pub fn is_header(program: &Program, x: u64) -> bool
-    requires { IsProgram program.now }
-    ensures { IsTrue result ↔ IsHeader (program_graph program.now) x }
-{
-    match find(&program.net, x) {
-        Some(place) => !sources_of(program, place).is_empty(),
-        None => false,
-    }
-}
-
 /// Whether a loop stands at the word at a place.
 pub fn is_header_at(program: &Program, place: usize) -> bool
     requires program { IsProgram program.now }
@@ -140,27 +133,6 @@ pub fn find_body(
         header,
         sources_of(program, header),
     )
-}
-
-// Whether a number is among others.
-fn has_place(xs: &[usize], x: usize) -> bool
-    ensures { IsTrue result ↔ Contains xs.now x }
-{
-    xs.iter().any(|y| *y == x)
-}
-
-/// Whether an edge is closed.
-pub fn is_closed_edge(program: &Program, header: u64, source: u64) -> bool
-    requires { IsProgram program.now }
-    ensures { IsTrue result ↔ IsClosed (program_graph program.now) header source }
-{
-    let Some(to) = find(&program.net, header) else {
-        return false;
-    };
-    let Some(from) = find(&program.net, source) else {
-        return false;
-    };
-    has_place(sources_of(program, to), from)
 }
 
 /// The words of the loop at an address, in order; none where no loop stands there.

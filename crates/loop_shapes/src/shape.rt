@@ -1,69 +1,105 @@
-ghost use Rattle.std.specs.Prelude.{◌≡◌, ◌↔◌, ◌<◌, ℕ, IfOk, IfSome, IfNone, MatchOption, IsTrue, length};
+ghost use Rattle.std.specs.Prelude.{◌≡◌, ◌↔◌, ◌<◌, ◌≤◌, ℕ, IfOk, OnOk, MatchOption, IsTrue, length};
 ghost use Rattle.std.specs.List.{Contains};
 ghost use Rattle.loop_data.specs.Bodies.{IsClosed, InBody};
-ghost use Rattle.loop_shapes.specs.Net.{graph_of};
-ghost use Rattle.loop_shapes.specs.Places.{count_of};
+ghost use Rattle.loop_data.specs.Shape.{IsExitBranch, IsOneExit, IsShaped, IsSide};
+ghost use Rattle.loop_shapes.specs.LoopBody.{IsLoopBody, IsLeftOnlyFrom, HasOwnShapeAt, body_graph, header_of};
+ghost use Rattle.loop_shapes.specs.Net.{AreAt};
+ghost use Rattle.loop_shapes.specs.PlaceSet.{IsPlaceSet};
+ghost use Rattle.loop_shapes.specs.Places.{at, count_of};
 ghost use Rattle.loop_shapes.specs.Program.{IsProgram, program_graph};
-ghost use Rattle.loop_data.specs.Sets.{IsListOf};
-ghost use Rattle.loop_data.specs.Shape.{IsExitBranch, IsInner, IsShaped, HasOwnShape};
+ghost use Rattle.loop_shapes.specs.Search.{IsIndexed};
 
 use crate::cycles::is_acyclic;
 use crate::exits::{back_of, exit_of, is_outermost, is_passed, stays};
 use crate::kind::{Kind, has_kind};
+use crate::loop_body::LoopBody;
+use crate::net::address_of;
+use crate::place_set::PlaceSet;
 use crate::program::Program;
-use std::alloc::{AllocError, Global};
+use std::alloc::AllocError;
 
-// Whether a loop may be left at an address, by the shape.
+// Whether a loop may be left at a word, by the shape.
 fn is_exit_branch(
-    alloc: Global,
-    program: &Program,
-    body: &[u64],
-    header: u64,
-    back: u64,
-    exit: u64,
+    body: &LoopBody,
+    others: &mut PlaceSet,
+    back: usize,
+    exit: usize,
 ) -> Result<bool, AllocError>
-    requires program { IsProgram program.now }
-    requires body { IsListOf (InBody (program_graph program.now) header) body.now }
-    requires closed { IsClosed (program_graph program.now) header back }
-    requires inside { InBody (program_graph program.now) header exit }
-    ensures { IfOk result (λ b. IsTrue b ↔ IsExitBranch (program_graph program.now) header back exit) }
+    requires body { IsLoopBody body.now }
+    requires others { IsPlaceSet (count_of (body_graph body.now)) others.old }
+    requires back { back < count_of (body_graph body.now) }
+    requires closed { IsClosed (body_graph body.now) (header_of body.now) (at (body_graph body.now) back) }
+    requires among { Contains body.now.places.now exit }
+    ensures branch { IfOk result (λ b. IsTrue b ↔ IsExitBranch (body_graph body.now) (header_of body.now) (at (body_graph body.now) back) (at (body_graph body.now) exit)) }
+    ensures one { IsLeftOnlyFrom (body_graph body.now) (header_of body.now) (at (body_graph body.now) exit)
+        → IsSide (body_graph body.now) (header_of body.now) (at (body_graph body.now) exit)
+        → (to : ℕ) × IsOneExit (body_graph body.now) (header_of body.now) (at (body_graph body.now) exit, to) }
+    ensures others { OnOk result (IsPlaceSet (count_of (body_graph body.now)) others.new) }
 {
-    if !has_kind(&program.net, exit, Kind::Branches) {
+    if !stays(body, exit) {
         return Ok(false);
     }
-    if !stays(alloc, &program.net, body, exit)? {
+    if !is_outermost(body, exit) {
         return Ok(false);
     }
-    if !is_outermost(program, header, exit) {
+    if !has_kind(
+        &body.program.net,
+        address_of(&body.program.net, exit),
+        Kind::Branches,
+    ) {
         return Ok(false);
     }
-    if !is_passed(alloc, &program.net, body, header, back, exit)? {
+    if !is_passed(body, others, back, exit)? {
         return Ok(false);
     }
-    is_acyclic(alloc, program, body)
+    is_acyclic(body, others)
 }
 
-/// The source of the back edge and the exit branch of a loop that has the shape, whatever its inner
-/// loops have.
-pub fn own_shape(
-    alloc: Global,
-    program: &Program,
-    body: &[u64],
-    header: u64,
-) -> Result<Option<(u64, u64)>, AllocError>
-    requires program { IsProgram program.now }
-    requires body { IsListOf (InBody (program_graph program.now) header) body.now }
-    ensures { IfOk result (λ o. MatchOption o (¬ IsShaped (program_graph program.now) header)
-        (λ s. HasOwnShape (program_graph program.now) header s.0 s.1)) }
+// The places of the source of the back edge and of the exit branch of a loop that has the shape, whatever
+// its inner loops have.
+fn own_shape(body: &LoopBody, others: &mut PlaceSet) -> Result<Option<(usize, usize)>, AllocError>
+    requires body { IsLoopBody body.now }
+    requires others { IsPlaceSet (count_of (body_graph body.now)) others.old }
+    ensures shape { IfOk result (λ o. MatchOption o (¬ IsShaped (body_graph body.now) (header_of body.now)) (HasOwnShapeAt (body_graph body.now) (header_of body.now))) }
+    ensures others { OnOk result (IsPlaceSet (count_of (body_graph body.now)) others.new) }
 {
-    let Some(back) = back_of(program, header) else {
+    let Some(back) = back_of(body.program, body.header) else {
         return Ok(None);
     };
-    let Some(edge) = exit_of(alloc, &program.net, body)? else {
+    let Some(exit) = exit_of(body) else {
         return Ok(None);
     };
-    if !is_exit_branch(alloc, program, body, header, back, edge.0)? {
+    if !is_exit_branch(body, others, back, exit)? {
         return Ok(None);
     }
-    Ok(Some((back, edge.0)))
+    Ok(Some((back, exit)))
+}
+
+/// The places of the source of the back edge and of the exit branch of the loop at a place, where it has the
+/// shape, whatever its inner loops have; from the places of its words.
+pub fn own_shape_at(
+    program: &Program,
+    slots: &[usize],
+    places: &[usize],
+    others: &mut PlaceSet,
+    header: usize,
+) -> Result<Option<(usize, usize)>, AllocError>
+    requires program { IsProgram program.now }
+    requires count { length slots.now ≡ count_of (program_graph program.now) }
+    requires indexed { IsIndexed places.now slots.now }
+    requires short { length places.now ≤ 256 }
+    requires header { header < count_of (program_graph program.now) }
+    requires words { AreAt (program_graph program.now) (InBody (program_graph program.now) (at (program_graph program.now) header)) places.now }
+    requires others { IsPlaceSet (count_of (program_graph program.now)) others.old }
+    ensures shape { IfOk result (λ o. MatchOption o (¬ IsShaped (program_graph program.now) (at (program_graph program.now) header))
+        (HasOwnShapeAt (program_graph program.now) (at (program_graph program.now) header))) }
+    ensures others { OnOk result (IsPlaceSet (count_of (program_graph program.now)) others.new) }
+{
+    let body = LoopBody {
+        program,
+        header,
+        places,
+        slots,
+    };
+    own_shape(&body, others)
 }

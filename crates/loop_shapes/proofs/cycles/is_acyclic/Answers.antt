@@ -1,13 +1,92 @@
-use Rattle.std.proofs.Common.{◌≡◌, length, arith}
-use Rattle.std.specs.Vec.{vec_len}
-use Rattle.loop_shapes.specs.Program.{program_graph}
-use Rattle.loop_shapes.proofs.Pruning.{pruned_start, acyclic_by}
+use Rattle.std.proofs.Common.{◌≡◌, ◌<◌, ◌≤◌, ℕ, List, length, get_or, refl, ap, sym, ◌∙◌, subst, arith}
+use Rattle.std.specs.List.{Contains}
+use Rattle.std.specs.declared.vec.Vec.{Vec}
+use Rattle.std.specs.declared.alloc.Global.{Global}
+use Rattle.std.proofs.lemmas.List.{get_or_default, length-map}
+use Rattle.std.proofs.lemmas.List.Elements.{Contains-get_or}
+use Rattle.loop_shapes.specs.LoopBody.{body_graph, header_of}
+use Rattle.loop_shapes.specs.Places.{in_row}
+use Rattle.loop_shapes.specs.Rows.{items_of, row, rows}
+use Rattle.loop_shapes.proofs.Gone.{taking_started, taking_more, no_more_gone}
+use Rattle.loop_shapes.proofs.PlaceCycles.{acyclic_by, as_many_gone}
+use Rattle.loop_shapes.proofs.Rounds.{same_test}
+use Rattle.loop_shapes.proofs.Searches.{apart_from_indexed}
 use Rattle.loop_shapes.proofs.cycles.is_acyclic.Goals as goal
 
-pub returns : goal.returns
-returns c h is =
-    let G = program_graph c.args.program.now in
-    let body = c.args.body.now in
-    let left = c.prune_all.new.left in
-    let n : vec_len left ≡ length left.items = omega (arith, left.ok.0) in
-    acyclic_by G h body left.items (vec_len left) c.is_empty.result n c.is_empty.ensures (c.prune_all.ensures.pruned body (pruned_start G body c.in_ok-left.left.items c.in_ok-left.ensures.items)) c.prune_all.ensures.stuck is
+pub take_out_all-requires-clause-within : goal.take_out_all-requires-clause-within
+take_out_all-requires-clause-within c i m = (c.requires.body.words.each i m).0
+
+pub loop-next-init : goal.loop-next-init
+loop-next-init c = (c.in_ok-take_out_all.ensures.gone, taking_started c.args.body.now.program.now.open_next.items c.args.body.now.places.now c.clear.new.self.found.items c.take_out_all.new.gone.found.items c.clear.ensures.items c.in_ok-take_out_all.ensures.more)
+
+pub returns-then-len-body-clause-acyclic : goal.returns-then-len-body-clause-acyclic
+returns-then-len-body-clause-acyclic c =
+    let b = c.requires.body in
+    let gone = c.loop-next.gone.found.items in
+    let inv = c.loop-next.invariant in
+    let e = c.if-len-body.true in
+    let l : length c.args.body.now.places.now ≤ length gone = omega (arith, c.len-in-loop-next.ensures, c.loop-next.gone.found.ok.0) in
+    (λ _. acyclic_by (body_graph c.args.body.now) (header_of c.args.body.now) c.args.body.now.program.now.open_next.items b.program.open_edges c.args.body.now.places.now b.words gone inv.1.are (apart_from_indexed gone c.loop-next.gone.slots.items inv.0.indexed) l, λ _. refl)
+
+pub row_at-requires : goal.row_at-requires
+row_at-requires c =
+    let b = c.requires.body in
+    let gone = c.loop-next.gone.found.items in
+    let next = c.loop-next.next in
+    let more : next < length gone = omega (arith, c.loop-next.gone.found.ok.0) in
+    let at = c.index-at.ensures ∙ get_or_default gone next c.index-at.result.now 0 more in
+    let l = (b.words.each (get_or gone next 0) (c.loop-next.invariant.1.are.among (get_or gone next 0) (Contains-get_or gone next 0 more))).0 in
+    let n = b.program.net.sources.count in
+    let m = length-map c.args.body.now.program.now.net.before.items items_of in
+    let e = ap length c.as_slice.ensures.value in
+    omega arith
+
+pub take_out_all-requires-in-loop-next-clause-within : goal.take_out_all-requires-in-loop-next-clause-within
+take_out_all-requires-in-loop-next-clause-within c i m =
+    let at = c.index-at.result.now in
+    let same = c.row_at.ensures ∙ ap (λ (vs : List (Vec ℕ Global)). row vs at) c.as_slice.ensures.value in
+    (c.requires.body.program.net.sources.each at i (subst (λ (xs : List ℕ). Contains xs i) same m)).0
+
+pub loop-next-smaller : goal.loop-next-smaller
+loop-next-smaller c =
+    let gone = c.loop-next.gone.found.items in
+    let inv = c.loop-next.invariant in
+    let more : c.loop-next.next < length gone = omega (arith, c.loop-next.gone.found.ok.0) in
+    let few = no_more_gone c.args.body.now.program.now.open_next.items c.args.body.now.places.now gone inv.1.are (apart_from_indexed gone c.loop-next.gone.slots.items inv.0.indexed) in
+    omega arith
+
+pub loop-next-preserved : goal.loop-next-preserved
+loop-next-preserved c =
+    let b = c.requires.body in
+    let places = c.args.body.now.places.now in
+    let nodes = c.args.body.now.program.now.open_next.items in
+    let gone = c.loop-next.gone.found.items in
+    let next = c.loop-next.next in
+    let inv = c.loop-next.invariant in
+    let more : next < length gone = omega (arith, c.loop-next.gone.found.ok.0) in
+    let at = c.index-at.ensures ∙ get_or_default gone next c.index-at.result.now 0 more in
+    let same = c.row_at.ensures ∙ ap (λ (vs : List (Vec ℕ Global)). row vs c.index-at.result.now) c.as_slice.ensures.value in (
+      c.in_ok-take_out_all-2.ensures.gone,
+      taking_more nodes places (Contains c.row_at.result.now) next gone c.take_out_all-in-loop-next.new.gone.found.items more (λ i m e.
+          let o = (b.program.open_edges.each i (get_or gone next 0)).0 e in
+          let s = b.program.net.sources.every (get_or gone next 0) i o.0 o.1 o.2.edge in
+          subst (λ (xs : List ℕ). Contains xs i) (sym same) (subst (λ (z : ℕ). Contains (in_row (rows c.args.body.now.program.now.net.before.items) z) i) (sym at) s)) inv.1 c.in_ok-take_out_all-2.ensures.more,
+    )
+
+pub returns-clause-acyclic : goal.returns-clause-acyclic
+returns-clause-acyclic c =
+    let b = c.requires.body in
+    let G = body_graph c.args.body.now in
+    let h = header_of c.args.body.now in
+    let places = c.args.body.now.places.now in
+    let nodes = c.args.body.now.program.now.open_next.items in
+    let gone = c.loop-next.gone.found.items in
+    let inv = c.loop-next.invariant in
+    let differ = apart_from_indexed gone c.loop-next.gone.slots.items inv.0.indexed in
+    let t = c.loop-next-test.false in
+    let n : c.len-2.result ≡ length gone = omega (arith, c.len-2.ensures, c.loop-next.gone.found.ok.0) in
+    let end : length gone ≤ c.loop-next.next = omega (arith, c.loop-next.gone.found.ok.0) in
+    let s = same_test c.len-2.result (length places) in (
+      λ q. let e = s.0 q in let l : length places ≤ length gone = omega arith in acyclic_by G h nodes b.program.open_edges places b.words gone inv.1.are differ l,
+      λ none. s.1 (n ∙ as_many_gone G h nodes b.program.open_edges places b.words c.loop-next.next gone (apart_from_indexed places c.args.body.now.slots.now b.indexed) differ end inv.1 none),
+    )

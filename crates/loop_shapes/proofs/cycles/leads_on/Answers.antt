@@ -1,18 +1,36 @@
-use Rattle.std.proofs.Common.{get_or, refl, below_more}
+use Rattle.std.proofs.Common.{◌≡◌, ◌<◌, ℕ, length, inl, inr, refl, arith}
 use Rattle.std.proofs.lemmas.Bool.{false≢true}
-use Rattle.std.proofs.lemmas.List.Elements.{Contains-get_or}
-use Rattle.loop_shapes.specs.Program.{program_graph}
-use Rattle.loop_shapes.proofs.Pruning.{leads_nowhere}
+use Rattle.strong_components.specs.Graph.{LeadsTo}
+use Rattle.loop_shapes.specs.LoopBody.{body_graph}
+use Rattle.loop_shapes.specs.Places.{count_of}
+use Rattle.loop_shapes.proofs.Cutting.{node_at}
+use Rattle.loop_shapes.proofs.Targets.{on_first, on_second, on_back}
 use Rattle.loop_shapes.proofs.cycles.leads_on.Goals as goal
 
-pub returns : goal.returns
-returns c = (λ t. absurd (false≢true t), λ o. absurd (leads_nowhere (program_graph c.args.program.now) c.args.left.now c.steps_of-y-items.result.now c.args.x c.loop-y.y-index c.loop-y-test.false c.steps_of-y-items.ensures c.loop-y.invariant o))
+pub is_step_on-requires-clause-within : goal.is_step_on-requires-clause-within
+is_step_on-requires-clause-within c b e =
+    let o = c.requires.body.program.open_edges in
+    let n = o.count in
+    let w = c.requires.within in
+    ((o.each c.args.place b).0 ((node_at c.args.body.now.program.now.open_next.items c.args.place b c.index-node.result.now (omega arith) c.index-node.ensures).0 (inl e))).1
+
+pub is_step_on-requires-2-clause-within : goal.is_step_on-requires-2-clause-within
+is_step_on-requires-2-clause-within c b e =
+    let o = c.requires.body.program.open_edges in
+    let n = o.count in
+    let w = c.requires.within in
+    ((o.each c.args.place b).0 ((node_at c.args.body.now.program.now.open_next.items c.args.place b c.index-node.result.now (omega arith) c.index-node.ensures).0 (inr e))).1
 
 pub returns-then-is_step_on : goal.returns-then-is_step_on
 returns-then-is_step_on c =
-    let steps = c.steps_of-y-items.result.now in
-    let s = c.if-is_step_on.ensures.0 refl in
-    (λ t. record { to = get_or steps c.loop-y.y-index 0; step = record { edge = (c.steps_of-y-items.ensures (get_or steps c.loop-y.y-index 0)).0 (Contains-get_or steps c.loop-y.y-index 0 c.loop-y-test.true); open_edge = s.1 }; among = s.0 }, λ _. refl)
+    let n = c.requires.body.program.open_edges.count in
+    let w = c.requires.within in
+    (λ _. on_first c.args.body.now.program.now.open_next.items c.args.body.now.places.now c.args.gone.now.found.items c.args.place c.index-node.result.now (omega arith) c.index-node.ensures (c.if-is_step_on.ensures.0 refl), λ _. refl)
 
-pub loop-y-preserved : goal.loop-y-preserved
-loop-y-preserved c = below_more _ _ c.loop-y.invariant (λ s. false≢true (c.if-is_step_on.ensures.1 s))
+pub returns : goal.returns
+returns c =
+    let n = c.requires.body.program.open_edges.count in
+    let w = c.requires.within in (
+      λ t. on_second c.args.body.now.program.now.open_next.items c.args.body.now.places.now c.args.gone.now.found.items c.args.place c.index-node.result.now (omega arith) c.index-node.ensures (c.is_step_on-2.ensures.0 t),
+      λ f. c.is_step_on-2.ensures.1 (on_back c.args.body.now.program.now.open_next.items c.args.body.now.places.now c.args.gone.now.found.items c.args.place c.index-node.result.now (omega arith) c.index-node.ensures (λ o. false≢true (c.if-is_step_on.ensures.1 o)) f),
+    )

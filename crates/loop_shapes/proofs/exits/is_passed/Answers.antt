@@ -1,15 +1,32 @@
-use Rattle.std.proofs.Common.{ℕ, List, sym, subst}
-use Rattle.std.specs.List.{Contains}
-use Rattle.loop_shapes.specs.Net.{graph_of}
-use Rattle.loop_data.specs.Paths.{Leads, Reaches}
-use Rattle.loop_shapes.specs.Gains.{HasAll}
-use Rattle.loop_shapes.proofs.Leaving.{passed_by}
+use Rattle.std.proofs.Common.{ℕ, refl, sym, subst}
+use Rattle.std.proofs.lemmas.Bool.{false≢true}
+use Rattle.loop_data.specs.Bodies.{ReachesPast}
+use Rattle.loop_shapes.specs.LoopBody.{body_graph, header_of}
+use Rattle.loop_shapes.specs.Places.{at}
+use Rattle.loop_shapes.proofs.Leaving.{few_past, part_large, passed_at_header, passed_by}
+use Rattle.loop_shapes.proofs.Parts.{part_small}
 use Rattle.loop_shapes.proofs.exits.is_passed.Goals as goal
 
-pub returns : goal.returns
-returns c =
-    let G = graph_of c.args.net.now in
-    let others = c.in_ok-others.others.items in
-    let reached = c.in_ok-reached.reached.items in
-    let all = subst (λ (xs : List ℕ). HasAll (Reaches (Leads G) (Contains xs) c.args.header) reached) c.as_slice.ensures.value c.in_ok-reached.ensures in
-    passed_by G c.args.header c.args.back c.args.exit c.args.body.now others reached c.has.result c.requires.body c.requires.closed c.in_ok-others.ensures all (λ t. subst (λ (xs : List ℕ). Contains xs c.args.back) c.as_slice-2.ensures.value (c.has.ensures.0 t), λ m. c.has.ensures.1 (subst (λ (xs : List ℕ). Contains xs c.args.back) (sym c.as_slice-2.ensures.value) m))
+pub returns-then-exit-body-clause-passed : goal.returns-then-exit-body-clause-passed
+returns-then-exit-body-clause-passed c =
+    let G = body_graph c.args.body.now in
+    let h = header_of c.args.body.now in
+    (λ _. subst (λ (e : ℕ). ¬ ReachesPast G (at G e) h (at G c.args.back)) (sym c.if-exit-body.true) (passed_at_header G h (at G c.args.back)), λ _. refl)
+
+pub part-requires-clause-header : goal.part-requires-clause-header
+part-requires-clause-header c = (c.requires.body.words.each c.args.exit c.requires.among).0
+
+pub returns-then-not-branch-clause-passed : goal.returns-then-not-branch-clause-passed
+returns-then-not-branch-clause-passed c =
+    let b = c.requires.body in
+    let G = body_graph c.args.body.now in
+    let h = header_of c.args.body.now in
+    let large = part_large G c.args.exit c.args.back c.part.new.found.items c.in_ok-part.field-0 c.if-not-branch.true c.in_ok-part.ensures.part in
+    (λ t. absurd (false≢true t), λ none. absurd (large (few_past G h (at G c.args.back) (at G c.args.exit) c.args.body.now.places.now b.words b.short c.requires.closed (b.words.each c.args.exit c.requires.among).1 none)))
+
+pub returns-clause-passed : goal.returns-clause-passed
+returns-clause-passed c =
+    let b = c.requires.body in
+    let G = body_graph c.args.body.now in
+    let p = part_small G c.args.exit c.args.back c.part.new.found.items c.in_ok-part.field-0 c.if-not-branch.false c.in_ok-part.ensures.part in
+    passed_by G b.program.net.ordered c.args.body.now.header c.args.back c.args.exit c.part.new.found.items c.has.result p b.header (b.words.each c.args.exit c.requires.among).0 c.if-exit-body.false c.has.ensures

@@ -102,4 +102,4 @@ returns-clause-is c =
     let body = subst (λ (xs : List ℕ). AreAt G (InBody G h) xs) (sym c.deref-2.ensures.value) (subst (λ (x : ℕ). AreAt G (InBody G x) found) (sym is) there.1) in
     let all = at_some (¬ HasAtMost 4 (InNest G h)) (λ (v : Vec ℕ Global). HasAll (InNest G h) v.items) c.in_ok-headers.field-0 c.in-Some-2.headers c.in-Some-2.is (c.in_ok-headers.ensures h body) in
     let nest = nest_in_order G h c.in-Some-2.headers.items c.in_order-nest.result.items all c.in_order-nest.ensures in
-    sound_loop G h _ own refl refl (subst (AreLevels G h) (sym c.new.ensures) c.in_ok-levels.ensures) c.in_default.ensures (passed c.in_ok-is_small_nest.field-0 (c.in_ok-is_small_nest.ensures h (subst (IsListOf (InNest G h)) (sym c.as_slice.ensures.value) nest)) c.if-not-branch-2.false)
+    sound_loop G h _ own refl refl (subst (AreLevels G h) (sym c.new.ensures) c.in_ok-levels.ensures.levels) c.in_default.ensures (passed c.in_ok-is_small_nest.field-0 (c.in_ok-is_small_nest.ensures h (subst (IsListOf (InNest G h)) (sym c.as_slice.ensures.value) nest)) c.if-not-branch-2.false)

@@ -6,7 +6,9 @@ use Rattle.loop_shapes.proofs.Listings.{below_none, below_all}
 use Rattle.loop_shapes.proofs.listing.shapes_of.Goals as goal
 
 pub loop-place-init : goal.loop-place-init
-loop-place-init c = subst (AreLoopsBelow (program_graph c.args.program.now) 0) (sym c.new-all.ensures.items) (below_none (program_graph c.args.program.now))
+loop-place-init c =
+    let G = program_graph c.args.program.now in
+    (c.in_ok-shaped.ensures.others, subst (AreLoopsBelow G 0) (sym c.new-all.ensures.items) (below_none G))
 
 pub returns : goal.returns
 returns c =
@@ -15,4 +17,4 @@ returns c =
     let t = c.loop-place-test.false in
     let v = c.args.program.now.net.at in
     let le : count_of G ≤ c.loop-place.place = omega (arith, v.ok.0, c.len-place-end.ensures) in
-    below_all G c.loop-place.place c.loop-place.all.items le c.loop-place.invariant
+    below_all G c.loop-place.place c.loop-place.all.items le c.loop-place.invariant.1

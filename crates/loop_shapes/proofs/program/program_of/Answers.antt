@@ -36,4 +36,4 @@ pub returns-clause-program : goal.returns-clause-program
 returns-clause-program c =
     let G = graph_of c.args.net in
     let cut = subst (λ (vs : List (Vec ℕ Global)). AreCut (rows vs) c.in_ok-next.next.items c.in_ok-open_next.open_next.items) c.as_slice-2.ensures.value (subst (λ (vs : List Successors). AreCut (rows c.as_slice-2.result.now) vs c.in_ok-open_next.open_next.items) c.as_slice.ensures.value c.in_ok-open_next.ensures) in
-    record { net = c.requires.net; closed = c.in_ok-closed.ensures.closed; around = c.in_ok-closed.ensures.around; next = c.in_ok-next.ensures; open_edges = open_by G (rows c.in_ok-closed.closed.items) c.in_ok-next.next.items c.in_ok-open_next.open_next.items c.in_ok-next.ensures c.in_ok-closed.ensures.closed cut }
+    record { net = c.requires.net; closed = c.in_ok-closed.ensures.closed; around = c.in_ok-closed.ensures.around; next = c.in_ok-next.ensures; open_edges = open_by G (rows c.in_ok-closed.closed.items) c.in_ok-next.next.items c.in_ok-open_next.open_next.items c.in_ok-next.ensures c.in_ok-closed.ensures.closed cut; astray = c.in_ok-astray.ensures }

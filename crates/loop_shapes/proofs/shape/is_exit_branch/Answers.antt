@@ -1,25 +1,21 @@
-use Rattle.std.proofs.Common.{◌↔◌, ℕ, List, refl, sym, subst}
+use Rattle.std.proofs.Common.{◌↔◌, ℕ, refl, subst}
 use Rattle.std.specs.Bool.{IsTrue}
-use Rattle.std.specs.List.{Contains}
-use Rattle.std.proofs.lemmas.Bool.{false≢true}
 use Rattle.std.proofs.lemmas.Result.{IfOk-weaker}
 use Rattle.loop_data.specs.Bodies.{InBody}
-use Rattle.loop_shapes.specs.Program.{program_graph}
-use Rattle.loop_data.specs.Sets.{IsListOf}
+use Rattle.loop_data.specs.Instructions.{IsBranch}
 use Rattle.loop_data.specs.Shape.{IsExitBranch, IsForward, IsOnCycle}
-use Rattle.loop_shapes.proofs.Answered.{passed, failed}
+use Rattle.loop_shapes.specs.LoopBody.{body_graph, header_of}
+use Rattle.loop_shapes.specs.Places.{at}
+use Rattle.loop_shapes.proofs.Answered.{passed}
 use Rattle.loop_shapes.proofs.shape.is_exit_branch.Goals as goal
 
-pub returns-then-not-branch : goal.returns-then-not-branch
-returns-then-not-branch c = (λ t. absurd (false≢true t), λ e. absurd (failed c.in_ok-stays.field-0 (c.in_ok-stays.ensures c.args.header c.requires.body) c.if-not-branch.true e.stays))
-
-pub returns : goal.returns
-returns c =
-    let G = program_graph c.args.program.now in
-    let h = c.args.header in
-    IfOk-weaker c.is_acyclic.result (λ b. (k : ℕ) → IsListOf (InBody G k) c.args.body.now → IsTrue b ↔ ((x : ℕ) → ¬ IsOnCycle (IsForward G k) (InBody G k) x)) (λ b. IsTrue b ↔ IsExitBranch G h c.args.back c.args.exit)
+pub returns-clause-branch : goal.returns-clause-branch
+returns-clause-branch c =
+    let G = body_graph c.args.body.now in
+    let h = header_of c.args.body.now in
+    IfOk-weaker c.is_acyclic.result (λ b. IsTrue b ↔ ((x : ℕ) → ¬ IsOnCycle (IsForward G h) (InBody G h) x)) (λ b. IsTrue b ↔ IsExitBranch G h (at G c.args.back) (at G c.args.exit))
     (λ b says. (
-      λ t. record { branch = c.if-not-has_kind.ensures.0 refl; stays = passed c.in_ok-stays.field-0 (c.in_ok-stays.ensures h c.requires.body) c.if-not-branch.false; outermost = c.if-not-is_outermost.ensures.0 refl; passed = passed c.in_ok-is_passed.field-0 c.in_ok-is_passed.ensures c.if-not-branch-2.false; acyclic = (says h c.requires.body).0 t },
-      λ e. (says h c.requires.body).1 e.acyclic,
+      λ t. record { branch = subst (IsBranch G) c.address_of.ensures (c.if-not-has_kind.ensures.0 refl); stays = c.if-not-stays.ensures.stays.0 refl; outermost = c.if-not-is_outermost.ensures.0 refl; passed = passed c.in_ok-is_passed.field-0 c.in_ok-is_passed.ensures.passed c.if-not-branch.false; acyclic = says.0 t },
+      λ e. says.1 e.acyclic,
     ))
-    c.is_acyclic.ensures
+    c.is_acyclic.ensures.acyclic

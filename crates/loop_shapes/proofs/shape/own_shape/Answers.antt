@@ -1,25 +1,25 @@
-use Rattle.std.proofs.Common.{ℕ}
-use Rattle.loop_data.specs.declared.graph.Graph.{Graph}
-use Rattle.loop_data.specs.Shape.{IsOneExit}
-use Rattle.loop_shapes.specs.Program.{program_graph}
-use Rattle.loop_shapes.proofs.Answered.{passed, failed, at_some, at_none}
+use Rattle.loop_shapes.specs.LoopBody.{body_graph, header_of}
+use Rattle.loop_shapes.specs.Places.{at}
+use Rattle.loop_shapes.proofs.Answered.{passed, failed}
 use Rattle.loop_shapes.proofs.Shapes.{no_shape_back, no_shape_exit, no_shape_branch, shape_by}
 use Rattle.loop_shapes.proofs.shape.own_shape.Goals as goal
 
-abbrev NoExit : Graph → ℕ → Type 0
-NoExit G h = (e : ℕ × ℕ) → ¬ IsOneExit G h e
+pub returns-in_default-clause-shape : goal.returns-in_default-clause-shape
+returns-in_default-clause-shape c = no_shape_back (body_graph c.args.body.now) (header_of c.args.body.now) c.in_default.ensures.none
 
-pub returns-in_default : goal.returns-in_default
-returns-in_default c = no_shape_back (program_graph c.args.program.now) c.args.header c.in_default.ensures.none
+pub returns-in_default-exit_of-clause-shape : goal.returns-in_default-exit_of-clause-shape
+returns-in_default-exit_of-clause-shape c = no_shape_exit (body_graph c.args.body.now) (header_of c.args.body.now) c.in_default-exit_of.ensures.none
 
-pub returns-in_default-2 : goal.returns-in_default-2
-returns-in_default-2 c = no_shape_exit (program_graph c.args.program.now) c.args.header (at_none (NoExit (program_graph c.args.program.now) c.args.header) (IsOneExit (program_graph c.args.program.now) c.args.header) c.in_ok-edge.field-0 c.in_default-2.is (c.in_ok-edge.ensures c.args.header c.requires.body))
+pub returns-then-not-branch-clause-shape : goal.returns-then-not-branch-clause-shape
+returns-then-not-branch-clause-shape c =
+    let G = body_graph c.args.body.now in
+    no_shape_branch G (header_of c.args.body.now) (at G c.in-Some.back) (at G c.in-Some-exit_of.exit) c.in-Some.ensures.some c.in-Some-exit_of.ensures.some (failed c.in_ok-is_exit_branch.field-0 c.in_ok-is_exit_branch.ensures.branch c.if-not-branch.true)
 
-pub returns-then-not-branch : goal.returns-then-not-branch
-returns-then-not-branch c = no_shape_branch (program_graph c.args.program.now) c.args.header c.in-Some.back c.in-Some-2.edge c.in-Some.ensures.some (at_some (NoExit (program_graph c.args.program.now) c.args.header) (IsOneExit (program_graph c.args.program.now) c.args.header) c.in_ok-edge.field-0 c.in-Some-2.edge c.in-Some-2.is (c.in_ok-edge.ensures c.args.header c.requires.body)) (failed c.in_ok-is_exit_branch.field-0 c.in_ok-is_exit_branch.ensures c.if-not-branch.true)
-
-pub returns : goal.returns
-returns c = shape_by (program_graph c.args.program.now) c.args.header c.in-Some.back c.in-Some-2.edge c.in-Some.ensures.some (at_some (NoExit (program_graph c.args.program.now) c.args.header) (IsOneExit (program_graph c.args.program.now) c.args.header) c.in_ok-edge.field-0 c.in-Some-2.edge c.in-Some-2.is (c.in_ok-edge.ensures c.args.header c.requires.body)) (passed c.in_ok-is_exit_branch.field-0 c.in_ok-is_exit_branch.ensures c.if-not-branch.false)
-
-pub is_exit_branch-requires-clause-inside : goal.is_exit_branch-requires-clause-inside
-is_exit_branch-requires-clause-inside c = (at_some (NoExit (program_graph c.args.program.now) c.args.header) (IsOneExit (program_graph c.args.program.now) c.args.header) c.in_ok-edge.field-0 c.in-Some-2.edge c.in-Some-2.is (c.in_ok-edge.ensures c.args.header c.requires.body)).leaves.inside
+pub returns-clause-shape : goal.returns-clause-shape
+returns-clause-shape c =
+    let G = body_graph c.args.body.now in
+    record {
+      back = c.in-Some.ensures.within;
+      exit = (c.requires.body.words.each c.in-Some-exit_of.exit c.in-Some-exit_of.ensures.among).0;
+      shape = shape_by G (header_of c.args.body.now) (at G c.in-Some.back) (at G c.in-Some-exit_of.exit) c.in-Some.ensures.some c.in-Some-exit_of.ensures.some (passed c.in_ok-is_exit_branch.field-0 c.in_ok-is_exit_branch.ensures.branch c.if-not-branch.false) c.in_ok-is_exit_branch.ensures.one;
+    }

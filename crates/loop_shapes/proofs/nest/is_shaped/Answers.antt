@@ -1,0 +1,22 @@
+use Rattle.std.proofs.Common.{◌≡◌, ℕ, List, refl, sym, subst}
+use Rattle.std.specs.List.{Contains}
+use Rattle.std.proofs.lemmas.Bool.{false≢true}
+use Rattle.loop_data.specs.Bodies.{InBody}
+use Rattle.loop_data.specs.Shape.{IsShaped}
+use Rattle.loop_shapes.specs.LoopBody.{HasOwnShapeAt}
+use Rattle.loop_shapes.specs.Net.{AreAt}
+use Rattle.loop_shapes.specs.Places.{at}
+use Rattle.loop_shapes.specs.Program.{program_graph}
+use Rattle.loop_shapes.proofs.Answered.{at_some, at_none}
+use Rattle.loop_shapes.proofs.Unsound.{shaped_small, body_there, body_large}
+use Rattle.loop_shapes.proofs.nest.is_shaped.Goals as goal
+
+pub returns-then-not-is_header_at-clause-shaped : goal.returns-then-not-is_header_at-clause-shaped
+returns-then-not-is_header_at-clause-shaped c = (λ t. absurd (false≢true t), λ s. absurd (false≢true (c.if-not-is_header_at.ensures.1 (record { source = s.back; closed = s.shape.one_back.closed }))))
+
+pub returns-then-not-branch-clause-shaped : goal.returns-then-not-branch-clause-shaped
+returns-then-not-branch-clause-shaped c =
+    let G = program_graph c.args.program.now in
+    let x = at G c.args.place in
+    let large = body_large c.in_ok-find_body.field-0 G x c.find_body.new.found.items c.if-not-branch.true c.in_ok-find_body.ensures.body in
+    (λ t. absurd (false≢true t), λ s. absurd (large (shaped_small G x s)))
