@@ -399,6 +399,7 @@ sample_is_nest =
       inner = inside ∷ [];
       are = refl;
       few = omega arith;
+      inner_ordered = search rules;
       nest = is_nest;
       ordered = λ l i. ordered l (loop_is l i);
       short = omega arith;

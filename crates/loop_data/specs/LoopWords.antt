@@ -1,5 +1,5 @@
 -- The words of loops, and what the levels of a loop promise.
-use Rattle.std.specs.Prelude.{ℕ, ◌≡◌, ◌≤◌, ◌↔◌, ◌%◌, true, List, [], ◌∷◌, length, Some}
+use Rattle.std.specs.Prelude.{ℕ, ◌≡◌, ◌≤◌, ◌↔◌, ◌%◌, true, List, [], ◌∷◌, length, map, Some}
 use Rattle.std.specs.List.{Contains}
 use Rattle.std.specs.List.Sorted.{IsStrictlyIncreasing}
 use Rattle.rv64_decode.specs.Row.{plus_offset, next_pc}
@@ -37,14 +37,20 @@ pub record IsLoopWord (G : Graph) (u : ℕ) : Type 0 where
   pub leads : (v : ℕ) → Leads G u v ↔ Contains (next_words instr u) v
 
 -- what the levels of a listed loop without an early verdict promise: the root first, and then its inner
--- loops
+-- loops, in order of their headers
 pub record AreNest (G : Graph) (levels : List Level) : Type 0 where
   pub root : Level
   pub inner : List Level
   pub are : levels ≡ root ∷ inner
   pub few : length inner ≤ 3
+  pub inner_ordered : IsStrictlyIncreasing (map (λ (l : Level). l.header) inner)
   pub nest : IsNest (nest_of G root inner)
   pub ordered : (l : Level) → Among (nest_of G root inner) l → IsStrictlyIncreasing l.body
   pub short : length root.body ≤ 256
   pub words : (u : ℕ) → has root.body u ≡ true → IsLoopWord G u
   pub branches : (l : Level) → Among (nest_of G root inner) l → IsBranch G l.exit
+
+-- and the root is the loop at h
+pub record AreNestAt (G : Graph) (h : ℕ) (levels : List Level) : Type 0 where
+  pub nest : AreNest G levels
+  pub root_header : nest.root.header ≡ h

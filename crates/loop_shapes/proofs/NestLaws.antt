@@ -1,5 +1,6 @@
 -- The levels of a loop whose nest has the shape are a nest.
 use Rattle.std.proofs.Common.{◌≡◌, ◌≢◌, ℕ, suc, ◌<◌, ◌≤◌, ◌⊎◌, inl, inr, List, [], ◌∷◌, length, map, Bool, true, false, Option, None, refl, ap, sym, ◌∙◌, subst, arith, if◌then◌else◌, ◌==◌}
+use Rattle.std.specs.List.Sorted.{IsStrictlyIncreasing}
 use Rattle.std.specs.List.{All}
 use Rattle.std.proofs.lemmas.List.{length-map}
 use Rattle.std.proofs.lemmas.List.Elements.{All-head, All-tail}
@@ -16,7 +17,7 @@ use Rattle.loop_data.specs.Bodies.{ReachesPast, InPart, IsClosed, InBody}
 use Rattle.loop_data.specs.Shape.{IsInner, InNest, IsForward}
 use Rattle.loop_data.specs.Early.{IsRound, IsSmallNest, IsPlain, IsEarly}
 use Rattle.loop_data.specs.Loops.{IsLevel, AreLevels, HasLevels}
-use Rattle.loop_data.specs.LoopWords.{AreNest}
+use Rattle.loop_data.specs.LoopWords.{AreNest, AreNestAt}
 use Rattle.loop_data.specs.Nests.{has, leads_in, nest_of, In as IsListedIn, AreDistinct, levels, Among, Edge, IsPassTo, IsPass, HasSides, ClosesNone, IsRank, IsEntered, AreNested, HasShapes, IsNest}
 use Rattle.loop_data.proofs.Lists.{In, to_in, Apart, pigeons}
 use Rattle.loop_data.proofs.FromStarts.{from_starts}
@@ -466,20 +467,9 @@ module _ (G : Graph) (root : Level) (inner : List Level) (g : Given G root inner
       nest_at x i = let l = level_at (root ∷ inner) x i in subst (InNest G root.header) l.2 (in_nest l.0 l.1)
 
 -- what the levels of a loop without an early verdict promise
-from_levels : (elf : Elf) (G : Graph) (h : ℕ) (ls : List Level) → IsGraph elf G → IsPlain G h → IsSmallNest G h → AreLevels G h ls → AreNest G ls
+from_levels : (elf : Elf) (G : Graph) (h : ℕ) (ls : List Level) → IsGraph elf G → IsPlain G h → IsSmallNest G h → AreLevels G h ls → AreNestAt G h ls
 from_levels elf G h [] graph plain small a = absurd (let e = a.headers in cc)
-from_levels elf G h (root ∷ inner) graph plain small a =
-    record {
-      root = root;
-      inner = inner;
-      are = refl;
-      few = few G root inner g;
-      nest = is_nest G root inner g;
-      ordered = λ l i. (loop_of G root inner g l i).body.ordered;
-      short = at_most (InBody G root.header) (length root.body) 256 (record { members = root.body; are = (loop_of G root inner g root (inl refl)).body; count = refl }) p.short;
-      words = λ u i. loop_word elf G graph root.header u p (in_body G root inner g root (inl refl) u i);
-      branches = λ l i. (loop_of G root inner g l i).shape.branch.branch;
-    }
+from_levels elf G h (root ∷ inner) graph plain small a = record { nest = nest; root_header = same }
   where
     same : root.header ≡ h
     same = let e = a.headers in cc
@@ -489,6 +479,24 @@ from_levels elf G h (root ∷ inner) graph plain small a =
 
     g : Given G root inner
     g = record { starts = from_starts elf G graph; are = subst (λ x. AreLevels G x (root ∷ inner)) (sym same) a; small = subst (IsSmallNest G) (sym same) small }
+
+    rest : map (λ (l : Level). l.header) inner ≡ a.inner
+    rest = let e = a.headers in cc
+
+    nest : AreNest G (root ∷ inner)
+    nest =
+        record {
+          root = root;
+          inner = inner;
+          are = refl;
+          few = few G root inner g;
+          inner_ordered = subst IsStrictlyIncreasing (sym rest) a.are_inner.ordered;
+          nest = is_nest G root inner g;
+          ordered = λ l i. (loop_of G root inner g l i).body.ordered;
+          short = at_most (InBody G root.header) (length root.body) 256 (record { members = root.body; are = (loop_of G root inner g root (inl refl)).body; count = refl }) p.short;
+          words = λ u i. loop_word elf G graph root.header u p (in_body G root inner g root (inl refl) u i);
+          branches = λ l i. (loop_of G root inner g l i).shape.branch.branch;
+        }
 
 pub nest_law : NestLaw
 nest_law elf G s graph loop none =

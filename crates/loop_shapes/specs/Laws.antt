@@ -11,7 +11,7 @@ use Rattle.loop_data.specs.Bodies.{IsClosed, InBody}
 use Rattle.loop_data.specs.Shape.{IsInner, InNest, IsShaped, HasShape}
 use Rattle.loop_data.specs.Early.{IsRound}
 use Rattle.loop_data.specs.Loops.{IsLoop}
-use Rattle.loop_data.specs.LoopWords.{AreNest}
+use Rattle.loop_data.specs.LoopWords.{AreNestAt}
 
 -- the loop at k lies in that at h
 abbrev pub LiesIn : Graph → ℕ → ℕ → Type 0
@@ -46,4 +46,5 @@ ShapeLaw =
 
 -- what a loop without an early verdict promises
 abbrev pub NestLaw : Type 0
-NestLaw = (elf : Elf) (G : Graph) (s : LoopShape) → IsGraph elf G → IsLoop G s → s.early ≡ None → AreNest G s.levels
+NestLaw = (elf : Elf) (G : Graph) (s : LoopShape) → IsGraph elf G → IsLoop G s → s.early ≡ None
+    → AreNestAt G s.header s.levels
