@@ -21,6 +21,3 @@ chosen P Q xs i all ys l same g o = listed Q all ys (all_from_nothing Q all (gai
 
 pub chosen_outside : (xs ys : List ℕ) (i : ℕ) (all zs : List ℕ) → length xs ≤ i → Gained (Among (λ (x z : ℕ). (z ≡ x) × ¬ Contains ys x) (take i xs)) [] all → IsListOf (Contains all) zs → IsListOf (IsOutside xs ys) zs
 chosen_outside xs ys i all zs l g o = chosen (λ x. ¬ Contains ys x) (IsOutside xs ys) xs i all zs l (λ x. (λ p. record { among = p.0; absent = p.1 }, λ q. (q.among, q.absent))) g o
-
-pub chosen_nest : (G : Graph) (h : ℕ) (body : List ℕ) (i : ℕ) (all zs : List ℕ) → length body ≤ i → IsListOf (InBody G h) body → Gained (Among (λ (x z : ℕ). (z ≡ x) × IsHeader G x) (take i body)) [] all → IsListOf (Contains all) zs → IsListOf (InNest G h) zs
-chosen_nest G h body i all zs l is g o = chosen (IsHeader G) (InNest G h) body i all zs l (λ x. (λ p. record { header = p.1; inside = is.each x p.0 }, λ q. (is.every x q.inside, q.header))) g o

@@ -10,8 +10,9 @@ use Rattle.loop_data.specs.declared.graph.Graph.{Graph}
 use Rattle.loop_shapes.specs.Rows.{rows, items_of}
 use Rattle.loop_shapes.specs.Places.{HasSources, in_row, count_of, at}
 use Rattle.loop_data.specs.Bodies.{IsClosed}
-use Rattle.loop_shapes.specs.Net.{AreClosed, AreClosedOf, HasTriedEdge}
+use Rattle.loop_shapes.specs.Net.{AreClosedOf, HasTriedEdge}
 use Rattle.loop_shapes.proofs.Rows.{none_in, contains_more}
+use Rattle.loop_shapes.specs.Lines.{IsRowOf}
 
 pub tried_open : (G : Graph) (h u : ℕ) (xs : List ℕ) → (IsClosed G (at G h) (at G u) → ⊥) → HasTriedEdge G h u xs xs
 tried_open G h u xs open_edge = record { each = λ i c. inl c; kept = λ i c. c; every = λ c. absurd (open_edge c) }
@@ -37,7 +38,7 @@ closed_more G h i xs old new l a t = record { each = λ j c. one j (t.each j c);
     other j q (inl c) = t.kept j (a.every j c q)
     other j q (inr e) = subst (Contains new) (sym e) (t.every (subst (λ (z : ℕ). IsClosed G (at G h) (at G z)) e q))
 
-pub closed_all : (G : Graph) (rows : List (List ℕ)) → HasSources G (count_of G) rows → (h : ℕ) → h < count_of G → (i : ℕ) (places : List ℕ) → length (in_row rows h) ≤ i → AreClosedOf G h (take i (in_row rows h)) places → AreClosed G h places
+pub closed_all : (G : Graph) (rows : List (List ℕ)) → HasSources G (count_of G) rows → (h : ℕ) → h < count_of G → (i : ℕ) (places : List ℕ) → length (in_row rows h) ≤ i → AreClosedOf G h (take i (in_row rows h)) places → IsRowOf G (IsClosed G) h places
 closed_all G rows s h lh i places l a = record { each = λ j c. let r = all.each j c in ((s.each h j r.0).0, r.1); every = λ j m c. all.every j (s.every h j m lh c.edge) c }
   where
     all : AreClosedOf G h (in_row rows h) places

@@ -8,12 +8,12 @@ use Rattle.strong_components.specs.Graph.{IsEdge, LeadsTo}
 use Rattle.loop_data.specs.declared.graph.Graph.{Graph}
 use Rattle.loop_data.specs.Bodies.{IsClosed}
 use Rattle.loop_shapes.specs.Open.{IsOpenStep}
-use Rattle.loop_shapes.specs.Net.{HasClosed}
 use Rattle.loop_shapes.specs.Numbers.{AreNodes}
 use Rattle.loop_shapes.specs.Open.{IsCut, AreCutBelow, AreCut, AreOpen}
 use Rattle.loop_shapes.specs.Places.{in_row, count_of, at}
 use Rattle.loop_shapes.proofs.Rows.{none_in, contains_more}
 use Rattle.loop_shapes.proofs.Parts.{row_within}
+use Rattle.loop_shapes.specs.Lines.{AreRowsOf}
 
 get_same : (xs : List Successors) (i : ℕ) (v : Successors) → i < length xs → slice_get (set xs i v) i ≡ Some v
 get_same [] i v l = absurd (omega arith)
@@ -111,7 +111,7 @@ pub below_whole : (rows : List (List ℕ)) (n : ℕ) (old new : List Successors)
 below_whole rows n old new l x = record { count = x.count; each = λ a b. (λ i. let p = (x.each a b).0 i in (p.0, λ m. let k = row_within rows b a m in p.1 (omega arith, m)), λ p. (x.each a b).1 (p.0, λ m. p.1 m.1)) }
 
 -- without closed edges the open ones are left
-pub open_by : (G : Graph) (rows : List (List ℕ)) (old new : List Successors) → AreNodes G old → HasClosed G rows → AreCut rows old new → AreOpen G new
+pub open_by : (G : Graph) (rows : List (List ℕ)) (old new : List Successors) → AreNodes G old → AreRowsOf G (IsClosed G) rows → AreCut rows old new → AreOpen G new
 open_by G rows old new n h c = record { count = c.count ∙ n.count; each = λ a b. (there a b, back a b) }
   where
     there : (a b : ℕ) → IsEdge new a b → (a < count_of G) × (b < count_of G) × IsOpenStep G (at G a) (at G b)

@@ -16,7 +16,7 @@ use Rattle.loop_data.proofs.Ways.{stop, step, backward, starts_in, ends_in}
 use Rattle.loop_shapes.specs.Astray.{LeadsAstray}
 use Rattle.loop_shapes.specs.Gains.{IsOnly}
 use Rattle.loop_shapes.specs.LoopBody.{LeadsIn, LeadsOut, IsLeftFrom, IsLeftOnlyFrom}
-use Rattle.loop_shapes.specs.Net.{AreAt, AreClosed, HasPart, IsAmong, IsPart}
+use Rattle.loop_shapes.specs.Net.{AreAt, HasPart, IsAmong, IsPart}
 use Rattle.loop_shapes.specs.Numbers.{AreNodes}
 use Rattle.loop_shapes.specs.Places.{AreFlags, count_of, at}
 use Rattle.loop_shapes.specs.Sets.{AreDifferent}
@@ -25,9 +25,10 @@ use Rattle.loop_shapes.proofs.Parts.{HasPlace, place_of_source, place_of_word, c
 use Rattle.loop_shapes.proofs.Programs.{word_of_body}
 use Rattle.loop_shapes.proofs.Rounds.{decide}
 use Rattle.loop_shapes.proofs.Rows.{same_place}
+use Rattle.loop_shapes.specs.Lines.{IsRowOf}
 
 -- the place of the only closed edge's source
-pub back_by : (G : Graph) (place h : ℕ) (xs : List ℕ) (source : ℕ) → at G place ≡ h → AreClosed G place xs → IsOnly xs source → IsOneBack G h (at G source)
+pub back_by : (G : Graph) (place h : ℕ) (xs : List ℕ) (source : ℕ) → at G place ≡ h → IsRowOf G (IsClosed G) place xs → IsOnly xs source → IsOneBack G h (at G source)
 back_by G place h xs source is c o = record { closed = subst (λ (q : ℕ). IsClosed G q (at G source)) is (c.each source o.among).1; only = only }
   where
     only : (u : ℕ) → IsClosed G h u → u ≡ at G source
@@ -36,7 +37,7 @@ back_by G place h xs source is c o = record { closed = subst (λ (q : ℕ). IsCl
         let m = c.every p.place p.within (subst (λ (q : ℕ). IsClosed G q (at G p.place)) (sym is) (subst (IsClosed G h) (sym p.is) k)) in
         sym p.is ∙ ap (at G) (o.same p.place m)
 
-pub no_back_by : (G : Graph) (place h : ℕ) (xs : List ℕ) (inside : (i : ℕ) → Contains xs i → i < count_of G) → ((i j : ℕ) → i < count_of G → j < count_of G → at G i ≡ at G j → i ≡ j) → at G place ≡ h → AreClosed G place xs → ((source : ℕ) → ¬ IsOnly xs source) → (u : ℕ) → ¬ IsOneBack G h u
+pub no_back_by : (G : Graph) (place h : ℕ) (xs : List ℕ) (inside : (i : ℕ) → Contains xs i → i < count_of G) → ((i j : ℕ) → i < count_of G → j < count_of G → at G i ≡ at G j → i ≡ j) → at G place ≡ h → IsRowOf G (IsClosed G) place xs → ((source : ℕ) → ¬ IsOnly xs source) → (u : ℕ) → ¬ IsOneBack G h u
 no_back_by G place h xs inside same_at is c none u b = none p.place (record { among = among; same = same })
   where
     p : HasPlace G u

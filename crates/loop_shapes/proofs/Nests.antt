@@ -16,12 +16,6 @@ use Rattle.loop_shapes.proofs.Gains.{Among}
 use Rattle.loop_shapes.proofs.Choices.{chosen}
 use Rattle.loop_shapes.proofs.Leasts.{most_by}
 
-pub no_shape_nowhere : (G : Graph) (x : ℕ) → ¬ IsWord G x → ¬ IsShaped G x
-no_shape_nowhere G x absent s = absent s.shape.one_back.closed.word
-
-pub flagged_by : (G : Graph) (flags : List Bool) (place x : ℕ) → AreFlags G (IsShaped G) flags → place < count_of G → at G place ≡ x → (get_or flags place false ≡ true) ↔ IsShaped G x
-flagged_by G flags place x f l e = (λ t. subst (IsShaped G) e ((f.each place l).0 t), λ s. (f.each place l).1 (subst (IsShaped G) (sym e) s))
-
 pub all_at : (P : ℕ → Type 0) (xs : List ℕ) (n : ℕ) → length xs ≤ n → ((k : ℕ) → k < n → P (get_or xs k 0)) → (x : ℕ) → Contains xs x → P x
 all_at P xs n l f x c = let m = c.1 in subst P (get_or_default xs c.0 0 x c.1 ∙ c.2) (f c.0 (omega arith))
 
@@ -39,16 +33,6 @@ flags_push P old b n new e a p = (ap length e ∙ length_push old b ∙ ap (λ k
         let same : n ≡ i = omega arith in
         let q = get_or_push old b false i (c ∙ same) in
         (λ t. subst P same (p.0 (sym q ∙ t)), λ r. q ∙ p.1 (subst P (sym same) r))
-
-pub shape_by_nest : (G : Graph) (h : ℕ) (nest : List ℕ) → IsListOf (InNest G h) nest → IsShaped G h → ((k : ℕ) → Contains nest k → IsShaped G k) ↔ HasShape G h
-shape_by_nest G h nest is own = (λ f. record { own = own; inner = λ k i. f k (is.every k (record { header = i.header; inside = i.inside })) }, λ s k c. by s k (is.each k c) (cases_eq k h))
-  where
-    by : HasShape G h → (k : ℕ) → InNest G h k → (k ≡ h) ⊎ (k ≢ h) → IsShaped G k
-    by s k n (inl e) = subst (IsShaped G) (sym e) s.own
-    by s k n (inr ne) = s.inner k (record { header = n.header; inside = n.inside; other = ne })
-
-pub misshapen : (G : Graph) (h k : ℕ) → (InNest G h k × ¬ HasShape G k) ↔ IsMisshapen G h k
-misshapen G h k = (λ p. record { nest = p.0; shape = p.1 }, λ m. (m.nest, m.shape))
 
 pub chosen_round : (G : Graph) (h x : ℕ) (nest : List ℕ) (i : ℕ) (all zs : List ℕ) → length nest ≤ i → IsListOf (InNest G h) nest → Gained (Among (λ (k z : ℕ). (z ≡ k) × ((k ≢ x) × InBody G k x)) (take i nest)) [] all → IsListOf (Contains all) zs → IsListOf (IsRound G h x) zs
 chosen_round G h x nest i all zs l is g o = chosen (λ k. (k ≢ x) × InBody G k x) (IsRound G h x) nest i all zs l (λ k. (λ p. record { nest = is.each k p.0; other = p.1.0; holds = p.1.1 }, λ r. (is.every k r.nest, (r.other, r.holds)))) g o

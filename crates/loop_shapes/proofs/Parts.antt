@@ -12,10 +12,11 @@ use Rattle.loop_shapes.specs.Sets.{AreDifferent, HasOver}
 use Rattle.loop_shapes.specs.Places.{HasSources, AreFlags, in_row, count_of, at}
 use Rattle.loop_data.specs.Bodies.{ReachesPast, InPart, IsClosed, IsHeader, InBody}
 use Rattle.loop_shapes.specs.Search.{RowLeads, InPlaces, HasSearched, AreWithin}
-use Rattle.loop_shapes.specs.Net.{IsAmong, AreAt, IsPart, HasPart, HasBody, AreClosed, IsOnlyEntry}
+use Rattle.loop_shapes.specs.Net.{IsAmong, AreAt, IsPart, HasPart, HasBody, IsOnlyEntry}
 use Rattle.loop_data.proofs.Ways.{stop, step, backward, ends_in}
 use Rattle.loop_data.proofs.Lists.{from_in, no_longer, apart_from_places}
 use Rattle.loop_shapes.proofs.Rows.{alone, same_place, address_at, none_in}
+use Rattle.loop_shapes.specs.Lines.{IsRowOf}
 
 -- a set with more than n members has not at most n
 pub over_not_at_most : (n : ℕ) (P : ℕ → Type 0) → HasOver n P → HasAtMost n P → ⊥
@@ -165,7 +166,7 @@ module _ (G : Graph) (up : IsInOrder G) (rows : List (List ℕ)) (s : HasSources
       by false p = p
 
   -- of all closed edges to a word, of which there is one
-  pub has_body : (h : ℕ) (us : List ℕ) → h < count_of G → AreClosed G h us → IsHeader G (at G h) → (found : List ℕ) (small : Bool) → HasSearched small rows h us found → HasBody small G (at G h) found
+  pub has_body : (h : ℕ) (us : List ℕ) → h < count_of G → IsRowOf G (IsClosed G) h us → IsHeader G (at G h) → (found : List ℕ) (small : Bool) → HasSearched small rows h us found → HasBody small G (at G h) found
   has_body h us lh c header found small a = searched (InBody G (at G h)) h us lh (λ u m. (c.each u m).0) (λ x. (there x, back x)) found small a
     where
       there : (x : ℕ) → InParts G h us x → InBody G (at G h) x

@@ -8,10 +8,10 @@ use Rattle.loop_data.specs.declared.graph.Graph.{Graph}
 use Rattle.loop_data.specs.Paths.{IsInOrder, IsWord, Leads}
 use Rattle.loop_shapes.specs.Places.{count_of, at}
 use Rattle.loop_data.specs.Bodies.{IsClosed, IsHeader, InPart, InBody}
-use Rattle.loop_shapes.specs.Net.{AreClosed}
 use Rattle.loop_shapes.proofs.Rows.{none_in, steps_at, leads_at}
 use Rattle.loop_data.proofs.Ways.{backward}
 use Rattle.loop_shapes.proofs.Parts.{place_of_source, word_at}
+use Rattle.loop_shapes.specs.Lines.{IsRowOf}
 
 -- whether a list has a number
 pub some_number : (n : ℕ) (b : Bool) → b ≡ (n == 0) → (not b ≡ true) ↔ (0 < n)
@@ -23,7 +23,7 @@ some_number n b e = (λ t. there n b e t, λ l. back n b e l)
     back : (n : ℕ) (b : Bool) → b ≡ (n == 0) → 0 < n → not b ≡ true
     back n b e l = grind (arith, nat_tests)
 
-pub header_by : (G : Graph) (place x : ℕ) (xs : List ℕ) → at G place ≡ x → AreClosed G place xs → (0 < length xs) ↔ IsHeader G x
+pub header_by : (G : Graph) (place x : ℕ) (xs : List ℕ) → at G place ≡ x → IsRowOf G (IsClosed G) place xs → (0 < length xs) ↔ IsHeader G x
 header_by G place x xs is c = (there, back)
   where
     there : 0 < length xs → IsHeader G x
@@ -36,12 +36,6 @@ header_by G place x xs is c = (there, back)
         let l = k.1 in
         omega arith
 
-pub closed_by : (G : Graph) (to from h u : ℕ) (xs : List ℕ) → at G to ≡ h → from < count_of G → at G from ≡ u → AreClosed G to xs → Contains xs from ↔ IsClosed G h u
-closed_by G to from h u xs e l f c = (
-  λ m. subst (λ (q : ℕ). IsClosed G q u) e (subst (IsClosed G (at G to)) f (c.each from m).1),
-  λ k. c.every from l (subst (IsClosed G (at G to)) (sym f) (subst (λ (q : ℕ). IsClosed G q u) (sym e) k)),
-)
-
 pub word_of_source : (G : Graph) (x y : ℕ) → Leads G x y → IsWord G x
 word_of_source G x y lead = let p = place_of_source G x y lead in subst (IsWord G) p.is (word_at G p.place p.within)
 
@@ -53,10 +47,6 @@ steps_by G up place x w ys l m is e s y = (
 
 pub no_steps : (G : Graph) (x : ℕ) → ¬ IsWord G x → (y : ℕ) → Contains [] y ↔ Leads G x y
 no_steps G x absent y = (λ c. none_in y c, λ lead. absurd (absent (word_of_source G x y lead)))
-
--- no loop stands where no word is
-pub no_body : (G : Graph) (h x : ℕ) → ¬ IsWord G h → InBody G h x → ⊥
-no_body G h x absent b = absent b.closed.word
 
 -- a word of a body is a word of the program
 pub word_of_body : (G : Graph) (h x : ℕ) → InBody G h x → IsWord G x

@@ -9,7 +9,7 @@ use Rattle.loop_data.specs.declared.graph.Graph.{Graph}
 use Rattle.loop_data.specs.Paths.{IsInOrder, addresses}
 use Rattle.loop_shapes.specs.Places.{count_of, at}
 use Rattle.loop_data.specs.Bodies.{IsClosed, InPart, InBody}
-use Rattle.loop_shapes.specs.Net.{IsPart, AreClosed}
+use Rattle.loop_shapes.specs.Net.{IsPart}
 use Rattle.loop_data.specs.Shape.{IsInner}
 use Rattle.loop_data.specs.Starts.{AreFromStarts}
 use Rattle.loop_shapes.specs.Around.{entry_at, GivesWay, IsSettled, IsDone, LiesRight, IsRoundSoFar, AreRoundsSoFar, IsRound, AreRounds}
@@ -17,6 +17,7 @@ use Rattle.loop_data.proofs.Lists.{In, to_in, from_in}
 use Rattle.loop_shapes.proofs.Rows.{none_in, same_place}
 use Rattle.loop_shapes.proofs.Parts.{word_at, place_of_source, place_of_word}
 use Rattle.loop_shapes.proofs.Nesting.{meet, within, same_loop, one_within}
+use Rattle.loop_shapes.specs.Lines.{IsRowOf}
 
 pub no_rounds : (G : Graph) (inner : Bool) (entries : List (Option ℕ)) → entries ≡ replicate (count_of G) None → AreRoundsSoFar G inner 0 [] entries
 no_rounds G inner entries e = record { count = ap length e ∙ length-replicate (count_of G) None; none = λ i h u l q d p. nothing h u d; some = λ i m l q. absurd (empty i m l q) }
@@ -197,7 +198,7 @@ module _ (G : Graph) (all : AreFromStarts G) (up : IsInOrder G) where
       rounds_more = record { count = s.count ∙ a.count; none = λ i h v l e d q. none_at i h v l e d q (decide found i); some = λ i m l e. some_at i m l e (decide found i) }
 
   -- all edges to a word are done
-  pub rounds_next : (inner : Bool) (header : ℕ) (row : List ℕ) (entries : List (Option ℕ)) → AreClosed G header row → AreRoundsSoFar G inner header row entries → AreRoundsSoFar G inner (header + 1) [] entries
+  pub rounds_next : (inner : Bool) (header : ℕ) (row : List ℕ) (entries : List (Option ℕ)) → IsRowOf G (IsClosed G) header row → AreRoundsSoFar G inner header row entries → AreRoundsSoFar G inner (header + 1) [] entries
   rounds_next inner header row entries c a = record { count = a.count; none = λ i h u l e d. a.none i h u l e (before h u d); some = λ i m l e. let r = a.some i m l e in record { place = r.place; holds = r.holds; order = λ h u d. r.order h u (before h u d) } }
     where
       before : (h u : ℕ) → IsDone G (header + 1) [] h u → IsDone G header row h u

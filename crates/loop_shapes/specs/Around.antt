@@ -1,5 +1,6 @@
 -- The innermost and the outermost loop round each word.
-use Rattle.std.specs.Prelude.{ℕ, ◌≡◌, ◌+◌, ◌<◌, ◌⊎◌, Bool, true, false, MatchBool, Option, Some, None, List, length, slice_index_or}
+use Rattle.std.specs.Prelude.{ℕ, ◌≡◌, ◌+◌, ◌<◌, ◌⊎◌, Bool, true, false, MatchBool, Option, Some, None, List, length}
+use Rattle.std.specs.Prelude.{slice_index_or}
 use Rattle.std.specs.List.{Contains}
 use Rattle.loop_data.specs.declared.graph.Graph.{Graph}
 use Rattle.loop_shapes.specs.declared.around.Around.{Around}
@@ -25,7 +26,8 @@ pub record IsSettled (inner : Bool) (found done : List ℕ) (header : ℕ) (old 
 
 -- the closed edges to the words before a place, and those from a row of places to the word there
 abbrev pub IsDone : Graph → ℕ → List ℕ → ℕ → ℕ → Type 0
-IsDone G header row h u = ((h < header) × (u < count_of G) × IsClosed G (at G h) (at G u)) ⊎ ((h ≡ header) × Contains row u)
+IsDone G header row h u = ((h < header) × (u < count_of G) × IsClosed G (at G h) (at G u))
+    ⊎ ((h ≡ header) × Contains row u)
 
 -- one loop lies in the other, as its innermost or outermost
 abbrev pub LiesRight : Graph → Bool → ℕ → ℕ → Type 0
@@ -35,12 +37,15 @@ LiesRight G inner m k = MatchBool inner (InBody G k m) (InBody G m k)
 pub record IsRoundSoFar (G : Graph) (inner : Bool) (header : ℕ) (row : List ℕ) (i m : ℕ) : Type 0 where
   pub place : m < count_of G
   pub holds : InBody G (at G m) (at G i)
-  pub order : (h u : ℕ) → IsDone G header row h u → InPart G (at G h) (at G u) (at G i) → LiesRight G inner (at G m) (at G h)
+  pub order : (h u : ℕ) → IsDone G header row h u → InPart G (at G h) (at G u) (at G i)
+      → LiesRight G inner (at G m) (at G h)
 
 -- for each word that loop, by its header's place
-pub record AreRoundsSoFar (G : Graph) (inner : Bool) (header : ℕ) (row : List ℕ) (entries : List (Option ℕ)) : Type 0 where
+pub record AreRoundsSoFar (G : Graph) (inner : Bool) (header : ℕ) (row : List ℕ)
+    (entries : List (Option ℕ)) : Type 0 where
   pub count : length entries ≡ count_of G
-  pub none : (i h u : ℕ) → i < count_of G → entry_at entries i ≡ None → IsDone G header row h u → ¬ InPart G (at G h) (at G u) (at G i)
+  pub none : (i h u : ℕ) → i < count_of G → entry_at entries i ≡ None → IsDone G header row h u
+      → ¬ InPart G (at G h) (at G u) (at G i)
   pub some : (i m : ℕ) → i < count_of G → entry_at entries i ≡ Some m → IsRoundSoFar G inner header row i m
 
 pub record AreAroundSoFar (G : Graph) (header : ℕ) (row : List ℕ) (a : Around) : Type 0 where

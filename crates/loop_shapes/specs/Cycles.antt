@@ -9,7 +9,8 @@ use Rattle.loop_shapes.specs.LoopBody.{LeadsOnFrom}
 -- only to what went before
 pub record AreGone (nodes : List Successors) (places gone : List ℕ) : Type 0 where
   pub among : (i : ℕ) → Contains gone i → Contains places i
-  pub order : (k i : ℕ) → k < length gone → IsEdge nodes (slice_index gone k) i → Contains places i → Contains (take k gone) i
+  pub order : (k i : ℕ) → k < length gone → IsEdge nodes (slice_index gone k) i → Contains places i
+      → Contains (take k gone) i
 
 -- more of the places are gone: each of the tried ones from which no edge leads on
 pub record HasGone (nodes : List Successors) (places : List ℕ) (Tried : ℕ → Type 0) (old new : List ℕ) : Type 0 where

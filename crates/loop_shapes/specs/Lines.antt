@@ -24,7 +24,8 @@ pub record IsLargeAmong (G : Graph) (header : ℕ) (row : List ℕ) : Type 0 whe
 
 -- whether there is one
 abbrev pub HasLarge : Bool → Graph → ℕ → List ℕ → Type 0
-HasLarge b G header row = MatchBool b (IsLargeAmong G header row) ((i : ℕ) → Contains row i → HasAtMost 256 (InPart G (at G header) (at G i)))
+HasLarge b G header row = MatchBool b (IsLargeAmong G header row)
+    ((i : ℕ) → Contains row i → HasAtMost 256 (InPart G (at G header) (at G i)))
 
 -- a loop has both words
 pub record AreShared (G : Graph) (x y : ℕ) : Type 0 where

@@ -1,5 +1,6 @@
 -- What is known of each word of a program, by places.
-use Rattle.std.specs.Prelude.{ℕ, ◌≡◌, ◌<◌, Bool, true, false, MatchBool, MatchOption, Option, Some, None, min, if◌then◌else◌, List, slice_index_or}
+use Rattle.std.specs.Prelude.{ℕ, ◌≡◌, ◌<◌, Bool, true, false, MatchBool, MatchOption, Option, Some, None, min}
+use Rattle.std.specs.Prelude.{if◌then◌else◌, List, slice_index_or}
 use Rattle.std.specs.List.{Contains}
 use Rattle.loop_data.specs.declared.graph.Graph.{Graph}
 use Rattle.loop_shapes.specs.declared.kind.Kind.TheVariants.{Calls, Asks, JumpsAnywhere, IsNothing}
@@ -41,7 +42,8 @@ pub record HasUnshaped (G : Graph) (found : List ℕ) : Type 0 where
 
 -- whether there is one
 abbrev pub ArePlacesShaped : Bool → Graph → List ℕ → Type 0
-ArePlacesShaped unshaped G found = MatchBool unshaped (HasUnshaped G found) ((i : ℕ) → Contains found i → IsHeader G (at G i) → IsShaped G (at G i))
+ArePlacesShaped unshaped G found = MatchBool unshaped (HasUnshaped G found)
+    ((i : ℕ) → Contains found i → IsHeader G (at G i) → IsShaped G (at G i))
 
 -- the address of the least place that is found and flagged
 pub record IsFirstAt (G : Graph) (found : List ℕ) (flags : List Bool) (x : ℕ) : Type 0 where

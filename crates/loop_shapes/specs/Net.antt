@@ -35,7 +35,8 @@ pub record AreAt (G : Graph) (P : ℕ → Type 0) (found : List ℕ) : Type 0 wh
 
 -- the places of the words of a loop's body, at most 256, or that there are more
 abbrev pub HasBody : Bool → Graph → ℕ → List ℕ → Type 0
-HasBody small G h found = MatchBool small ((length found ≤ 256) × AreAt G (InBody G h) found) (¬ HasAtMost 256 (InBody G h))
+HasBody small G h found = MatchBool small ((length found ≤ 256) × AreAt G (InBody G h) found)
+    (¬ HasAtMost 256 (InBody G h))
 
 -- the places of the words that the edge from one place to another closes into a loop
 pub record IsPart (G : Graph) (header source : ℕ) (found : List ℕ) : Type 0 where
@@ -45,16 +46,12 @@ pub record IsPart (G : Graph) (header source : ℕ) (found : List ℕ) : Type 0 
 
 -- those places, or that there are too many
 abbrev pub HasPart : Bool → Graph → ℕ → ℕ → List ℕ → Type 0
-HasPart small G header source found = MatchBool small (IsPart G header source found) (¬ HasAtMost 256 (InPart G (at G header) (at G source)))
+HasPart small G header source found = MatchBool small (IsPart G header source found)
+    (¬ HasAtMost 256 (InPart G (at G header) (at G source)))
 
 -- of these places only one is that of a start word
 pub record IsOnlyEntry (starts : List Bool) (found : List ℕ) (header : ℕ) : Type 0 where
   pub same : (i : ℕ) → Contains found i → slice_index_or starts i false ≡ true → i ≡ header
-
--- the places of the words from which closed edges lead to the word at a place
-pub record AreClosed (G : Graph) (header : ℕ) (places : List ℕ) : Type 0 where
-  pub each : (i : ℕ) → Contains places i → (i < count_of G) × IsClosed G (at G header) (at G i)
-  pub every : (i : ℕ) → i < count_of G → IsClosed G (at G header) (at G i) → Contains places i
 
 -- those of the places xs from which closed edges lead to the word at a place
 pub record AreClosedOf (G : Graph) (header : ℕ) (xs places : List ℕ) : Type 0 where
@@ -67,11 +64,6 @@ pub record HasTriedEdge (G : Graph) (header source : ℕ) (old new : List ℕ) :
   pub kept : (i : ℕ) → Contains old i → Contains new i
   pub every : IsClosed G (at G header) (at G source) → Contains new source
 
--- for each word, those places
-pub record HasClosed (G : Graph) (rows : List (List ℕ)) : Type 0 where
-  pub count : length rows ≡ count_of G
-  pub each : (j : ℕ) → j < count_of G → AreClosed G j (in_row rows j)
-
 -- the words that the edges from these places close into a loop
 pub record IsPartOf (G : Graph) (header : ℕ) (sources : List ℕ) (x : ℕ) : Type 0 where
   pub source : ℕ
@@ -81,9 +73,3 @@ pub record IsPartOf (G : Graph) (header : ℕ) (sources : List ℕ) (x : ℕ) : 
 pub record IsUnion (G : Graph) (header : ℕ) (sources xs : List ℕ) : Type 0 where
   pub each : (x : ℕ) → Contains xs x → IsPartOf G header sources x
   pub every : (i x : ℕ) → Contains sources i → InPart G (at G header) (at G i) x → Contains xs x
-
--- more addresses
-pub record HasMore (P : ℕ → Type 0) (old new : List ℕ) : Type 0 where
-  pub each : (x : ℕ) → Contains new x → Contains old x ⊎ P x
-  pub kept : (x : ℕ) → Contains old x → Contains new x
-  pub every : (x : ℕ) → P x → Contains new x

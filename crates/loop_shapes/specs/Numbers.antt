@@ -15,4 +15,5 @@ pub record AreNodes (G : Graph) (nodes : List Successors) : Type 0 where
 -- two words have the same number where each is reached from the other
 pub record AreNumbers (G : Graph) (numbers : List ℕ) : Type 0 where
   pub count : length numbers ≡ count_of G
-  pub same : (a b : ℕ) → a < count_of G → b < count_of G → (slice_index numbers a ≡ slice_index numbers b) ↔ (LeadsFar G (at G a) (at G b) × LeadsFar G (at G b) (at G a))
+  pub same : (a b : ℕ) → a < count_of G → b < count_of G → (slice_index numbers a ≡ slice_index numbers b)
+      ↔ (LeadsFar G (at G a) (at G b) × LeadsFar G (at G b) (at G a))

@@ -20,7 +20,8 @@ in_row rows i = slice_index_or rows i []
 pub record Added (addresses : List ℕ) (from : ℕ) (ys : List ℕ) (old new : List (List ℕ)) : Type 0 where
   pub count : length new ≡ length old
   pub kept : (j k : ℕ) → Contains (in_row old j) k → Contains (in_row new j) k
-  pub each : (j k : ℕ) → Contains (in_row new j) k → Contains (in_row old j) k ⊎ ((k ≡ from) × (j < length addresses) × Contains ys (slice_index addresses j))
+  pub each : (j k : ℕ) → Contains (in_row new j) k → Contains (in_row old j) k
+      ⊎ ((k ≡ from) × (j < length addresses) × Contains ys (slice_index addresses j))
   pub every : (j : ℕ) → j < length addresses → Contains ys (slice_index addresses j) → Contains (in_row new j) from
 
 -- each row has the places below i of the words that lead to the word at its place
@@ -37,4 +38,5 @@ pub record AreFlags (G : Graph) (P : ℕ → Type 0) (flags : List Bool) : Type 
 -- the new flags are the old ones with one more set, at the place of x
 pub record Marked (addresses : List ℕ) (x : ℕ) (old new : List Bool) : Type 0 where
   pub count : length new ≡ length old
-  pub each : (i : ℕ) → i < length addresses → (slice_index_or new i false ≡ true) ↔ ((slice_index_or old i false ≡ true) ⊎ (slice_index addresses i ≡ x))
+  pub each : (i : ℕ) → i < length addresses → (slice_index_or new i false ≡ true)
+      ↔ ((slice_index_or old i false ≡ true) ⊎ (slice_index addresses i ≡ x))

@@ -66,4 +66,5 @@ pub record ArePlaces (P : ℕ → Type 0) (found : List ℕ) : Type 0 where
 
 -- what a search finds
 abbrev pub HasSearched : Bool → List (List ℕ) → ℕ → List ℕ → List ℕ → Type 0
-HasSearched small rows h us found = MatchBool small (ArePlaces (InPlaces rows h us) found) (HasOver 256 (InPlaces rows h us))
+HasSearched small rows h us found = MatchBool small (ArePlaces (InPlaces rows h us) found)
+    (HasOver 256 (InPlaces rows h us))

@@ -1,4 +1,5 @@
-ghost use Rattle.std.specs.Prelude.{◌≡◌, ◌<◌, ◌↔◌, ℕ, IsTrue, IfOk, length, replicate, slice_index_or, Some, None, IfSome};
+ghost use Rattle.std.specs.Prelude.{◌≡◌, ◌<◌, ◌↔◌, ℕ, IsTrue, IfOk, length, replicate, slice_index_or, Some, None};
+ghost use Rattle.std.specs.Prelude.{IfSome};
 ghost use Rattle.std.specs.List.{Contains};
 ghost use Rattle.loop_shapes.specs.Around.{GivesWay, IsSettled, entry_at};
 ghost use Rattle.loop_shapes.specs.Search.{IsIndexed};

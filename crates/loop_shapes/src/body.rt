@@ -1,9 +1,11 @@
 ghost use Rattle.std.specs.Prelude.{◌≡◌, ◌<◌, ◌++◌, ℕ, IfOk, OnOk, length, map, slice_index};
 ghost use Rattle.std.specs.List.{Contains};
 ghost use Rattle.loop_data.specs.Bodies.{IsClosed, InBody, InPart};
-ghost use Rattle.loop_shapes.specs.Net.{IsNet, AreClosed, HasMore, IsAmong, IsUnion, graph_of};
+ghost use Rattle.loop_shapes.specs.Net.{IsNet, IsAmong, IsUnion, graph_of};
 ghost use Rattle.loop_shapes.specs.Places.{at, count_of};
 ghost use Rattle.loop_data.specs.Sets.{IsListOf};
+ghost use Rattle.loop_shapes.specs.Lines.{IsRowOf};
+ghost use Rattle.loop_shapes.specs.Gains.{Gained};
 
 use crate::closed::part;
 use crate::net::Net;
@@ -42,7 +44,8 @@ fn add_part(
     requires header { header < count_of (graph_of net.now) }
     requires source { source < count_of (graph_of net.now) }
     requires closed { IsClosed (graph_of net.now) (at (graph_of net.now) header) (at (graph_of net.now) source) }
-    ensures { OnOk result (HasMore (InPart (graph_of net.now) (at (graph_of net.now) header) (at (graph_of net.now) source)) all.old.items all.new.items) }
+    ensures { OnOk result (Gained (InPart (graph_of net.now) (at (graph_of net.now) header)
+        (at (graph_of net.now) source)) all.old.items all.new.items) }
 {
     if !part(net, slots, found, header, source)? {
         return Ok(());
@@ -62,7 +65,7 @@ fn all_parts(
     requires net { IsNet net.now }
     requires count { length slots.old ≡ count_of (graph_of net.now) }
     requires header { header < count_of (graph_of net.now) }
-    requires closed { AreClosed (graph_of net.now) header closed.now }
+    requires closed { IsRowOf (graph_of net.now) (IsClosed (graph_of net.now)) header closed.now }
     ensures { IfOk result (λ v. IsUnion (graph_of net.now) header closed.now v.items) }
 {
     let mut all = Vec::new(alloc);
@@ -94,7 +97,7 @@ pub fn body_of(
     requires net { IsNet net.now }
     requires count { length slots.old ≡ count_of (graph_of net.now) }
     requires header { header < count_of (graph_of net.now) }
-    requires closed { AreClosed (graph_of net.now) header closed.now }
+    requires closed { IsRowOf (graph_of net.now) (IsClosed (graph_of net.now)) header closed.now }
     ensures { IfOk result (λ v. IsListOf (InBody (graph_of net.now) (at (graph_of net.now) header)) v.items) }
 {
     Ok(in_order(all_parts(alloc, net, slots, found, header, closed)?))

@@ -2,12 +2,13 @@ ghost use Rattle.std.specs.Prelude.{◌≡◌, ◌<◌, ◌+◌, ◌↔◌, [], 
 ghost use Rattle.std.specs.List.{Contains};
 ghost use Rattle.loop_shapes.specs.Around.{AreAroundSoFar, AreAround};
 ghost use Rattle.loop_data.specs.Bodies.{IsClosed, InBody};
-ghost use Rattle.loop_shapes.specs.Net.{IsNet, IsOnlyEntry, IsPart, HasPart, HasTriedEdge, AreClosed, HasClosed, graph_of};
+ghost use Rattle.loop_shapes.specs.Net.{IsNet, IsOnlyEntry, IsPart, HasPart, HasTriedEdge, graph_of};
 ghost use Rattle.loop_data.specs.Paths.{Leads};
 ghost use Rattle.loop_shapes.specs.Places.{at, count_of};
 ghost use Rattle.loop_shapes.specs.Rows.{rows};
 ghost use Rattle.loop_shapes.specs.Search.{IsIndexed};
 ghost use Rattle.loop_data.specs.Sets.{IsListOf};
+ghost use Rattle.loop_shapes.specs.Lines.{AreRowsOf, IsRowOf};
 
 use crate::around::{Around, settle};
 use crate::net::Net;
@@ -59,7 +60,8 @@ fn is_closed(
     requires header { header < count_of (graph_of net.now) }
     requires source { source < count_of (graph_of net.now) }
     requires edge { Leads (graph_of net.now) (at (graph_of net.now) source) (at (graph_of net.now) header) }
-    ensures closed { IfOk result (λ b. IsTrue b ↔ IsClosed (graph_of net.now) (at (graph_of net.now) header) (at (graph_of net.now) source)) }
+    ensures closed { IfOk result (λ b. IsTrue b
+        ↔ IsClosed (graph_of net.now) (at (graph_of net.now) header) (at (graph_of net.now) source)) }
     ensures part { IfOk result (λ b. IsTrue b → IsPart (graph_of net.now) header source found.new.items) }
     ensures indexed { OnOk result (IsIndexed found.new.items slots.new) }
 {
@@ -110,7 +112,7 @@ fn closed_row(
     requires count { length slots.old ≡ count_of (graph_of net.now) }
     requires header { header < count_of (graph_of net.now) }
     requires around { AreAroundSoFar (graph_of net.now) header [] around.old }
-    ensures closed { IfOk result (λ v. AreClosed (graph_of net.now) header v.items) }
+    ensures closed { IfOk result (λ v. IsRowOf (graph_of net.now) (IsClosed (graph_of net.now)) header v.items) }
     ensures around { OnOk result (AreAroundSoFar (graph_of net.now) (header + 1) [] around.new) }
 {
     let mut row = Vec::new(alloc);
@@ -131,7 +133,7 @@ pub fn closed_rows(
     requires net { IsNet net.now }
     requires count { length slots.old ≡ count_of (graph_of net.now) }
     requires around { AreAroundSoFar (graph_of net.now) 0 [] around.old }
-    ensures closed { IfOk result (λ v. HasClosed (graph_of net.now) (rows v.items)) }
+    ensures closed { IfOk result (λ v. AreRowsOf (graph_of net.now) (IsClosed (graph_of net.now)) (rows v.items)) }
     ensures around { OnOk result (AreAround (graph_of net.now) around.new) }
 {
     let mut all = Vec::new(alloc);

@@ -43,7 +43,8 @@ fn leads_on(body: &LoopBody, gone: &PlaceSet, place: usize) -> bool
     requires body { IsLoopBody body.now }
     requires gone { IsPlaceSet (count_of (body_graph body.now)) gone.now }
     requires within { place < count_of (body_graph body.now) }
-    ensures { IsTrue result ↔ LeadsOnFrom body.now.program.now.open_next.items body.now.places.now gone.now.found.items place }
+    ensures { IsTrue result
+        ↔ LeadsOnFrom body.now.program.now.open_next.items body.now.places.now gone.now.found.items place }
 {
     let node = body.program.open_next[place];
     if is_step_on(body, gone, node.first) {
@@ -58,7 +59,8 @@ fn take_out(body: &LoopBody, gone: &mut PlaceSet, place: usize) -> Result<(), Al
     requires gone { IsPlaceSet (count_of (body_graph body.now)) gone.old }
     requires within { place < count_of (body_graph body.now) }
     ensures gone { OnOk result (IsPlaceSet (count_of (body_graph body.now)) gone.new) }
-    ensures more { OnOk result (HasGone body.now.program.now.open_next.items body.now.places.now (λ i. i ≡ place) gone.old.found.items gone.new.found.items) }
+    ensures more { OnOk result (HasGone body.now.program.now.open_next.items body.now.places.now
+        (λ i. i ≡ place) gone.old.found.items gone.new.found.items) }
 {
     if !is_left(body, gone, place) {
         return Ok(());
@@ -76,7 +78,8 @@ fn take_out_all(body: &LoopBody, gone: &mut PlaceSet, places: &[usize]) -> Resul
     requires gone { IsPlaceSet (count_of (body_graph body.now)) gone.old }
     requires within { (i : ℕ) → Contains places.now i → i < count_of (body_graph body.now) }
     ensures gone { OnOk result (IsPlaceSet (count_of (body_graph body.now)) gone.new) }
-    ensures more { OnOk result (HasGone body.now.program.now.open_next.items body.now.places.now (Contains places.now) gone.old.found.items gone.new.found.items) }
+    ensures more { OnOk result (HasGone body.now.program.now.open_next.items body.now.places.now
+        (Contains places.now) gone.old.found.items gone.new.found.items) }
 {
     for place in places {
         take_out(body, gone, *place)?;
@@ -89,7 +92,8 @@ fn take_out_all(body: &LoopBody, gone: &mut PlaceSet, places: &[usize]) -> Resul
 pub fn is_acyclic(body: &LoopBody, gone: &mut PlaceSet) -> Result<bool, AllocError>
     requires body { IsLoopBody body.now }
     requires gone { IsPlaceSet (count_of (body_graph body.now)) gone.old }
-    ensures acyclic { IfOk result (λ b. IsTrue b ↔ ((x : ℕ) → ¬ IsOnCycle (IsForward (body_graph body.now) (header_of body.now))
+    ensures acyclic { IfOk result (λ b. IsTrue b
+        ↔ ((x : ℕ) → ¬ IsOnCycle (IsForward (body_graph body.now) (header_of body.now))
         (InBody (body_graph body.now) (header_of body.now)) x)) }
     ensures gone { OnOk result (IsPlaceSet (count_of (body_graph body.now)) gone.new) }
 {

@@ -29,7 +29,8 @@ pub fn early_verdict(net: &Net, marks: &Marks, found: &[usize], header: u64) -> 
     requires marks { AreMarks (graph_of net.now) marks.now }
     requires body { AreAt (graph_of net.now) (InBody (graph_of net.now) header) found.now }
     requires short { length found.now ≤ 256 }
-    ensures { MatchOption result (IsPlain (graph_of net.now) header × ((k : ℕ) → ¬ IsMisshapen (graph_of net.now) header k))
+    ensures { MatchOption result (IsPlain (graph_of net.now) header
+        × ((k : ℕ) → ¬ IsMisshapen (graph_of net.now) header k))
         (λ v. IsEarly (graph_of net.now) header (Some v)) }
 {
     if let Some(at) = first_flagged(net, found, marks.calls.as_slice()) {

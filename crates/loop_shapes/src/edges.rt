@@ -19,7 +19,8 @@ fn add_edge(
     all: &mut Vec<(u64, u64)>,
 ) -> Result<(), AllocError>
     requires { IsStrictlyIncreasing to.now }
-    ensures { OnOk result (Gained (λ (e : ℕ × ℕ). (e.0 ≡ x) × (e.1 ≡ y) × IsChosen inside to.now y) all.old.items all.new.items) }
+    ensures { OnOk result (Gained (λ (e : ℕ × ℕ). (e.0 ≡ x) × (e.1 ≡ y)
+        × IsChosen inside to.now y) all.old.items all.new.items) }
 {
     if is_among(to, y) != inside {
         return Ok(());

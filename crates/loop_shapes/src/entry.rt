@@ -87,8 +87,10 @@ pub fn part_list(
     requires count { length slots.old ≡ count_of (graph_of net.now) }
     requires header { header < count_of (graph_of net.now) }
     requires source { source < count_of (graph_of net.now) }
-    ensures { IfOk result (λ o. MatchOption o (¬ HasAtMost 256 (InPart (graph_of net.now) (at (graph_of net.now) header) (at (graph_of net.now) source)))
-        (λ v. IsListOf (InPart (graph_of net.now) (at (graph_of net.now) header) (at (graph_of net.now) source)) v.items)) }
+    ensures { IfOk result (λ o. MatchOption o
+        (¬ HasAtMost 256 (InPart (graph_of net.now) (at (graph_of net.now) header) (at (graph_of net.now) source)))
+        (λ v. IsListOf (InPart (graph_of net.now) (at (graph_of net.now) header)
+        (at (graph_of net.now) source)) v.items)) }
 {
     if !part(net, slots, found, header, source)? {
         return Ok(None);

@@ -1,4 +1,5 @@
-ghost use Rattle.std.specs.Prelude.{◌≡◌, ◌↔◌, ◌<◌, ◌≤◌, ◌+◌, ℕ, IfOk, IfSome, IfNone, IsTrue, OnOk, length, slice_index};
+ghost use Rattle.std.specs.Prelude.{◌≡◌, ◌↔◌, ◌<◌, ◌≤◌, ◌+◌, ℕ, IfOk, IfSome, IfNone, IsTrue, OnOk, length};
+ghost use Rattle.std.specs.Prelude.{slice_index};
 ghost use Rattle.std.specs.List.{Contains};
 ghost use Rattle.loop_data.specs.Bodies.{IsClosed, InBody, ReachesPast};
 ghost use Rattle.loop_data.specs.Shape.{IsOneBack, IsOneExit, IsSide, IsInner};
@@ -20,8 +21,10 @@ pub fn back_of(program: &Program, header: usize) -> Option<usize>
     requires program { IsProgram program.now }
     requires within { header < count_of (program_graph program.now) }
     ensures within { IfSome result (λ u. u < count_of (program_graph program.now)) }
-    ensures some { IfSome result (λ u. IsOneBack (program_graph program.now) (at (program_graph program.now) header) (at (program_graph program.now) u)) }
-    ensures none { IfNone result ((u : ℕ) → ¬ IsOneBack (program_graph program.now) (at (program_graph program.now) header) u) }
+    ensures some { IfSome result (λ u. IsOneBack (program_graph program.now) (at (program_graph program.now) header)
+        (at (program_graph program.now) u)) }
+    ensures none { IfNone result ((u : ℕ)
+        → ¬ IsOneBack (program_graph program.now) (at (program_graph program.now) header) u) }
 {
     let Some(source) = only_place(sources_of(program, header)) else {
         return None;
@@ -52,9 +55,11 @@ fn next_exit(body: &LoopBody, from: usize) -> usize
     ensures from { from ≤ result }
     ensures within { result ≤ length body.now.places.now }
     ensures left { result < length body.now.places.now
-        → IsLeftFrom (body_graph body.now) (header_of body.now) (at (body_graph body.now) (slice_index body.now.places.now result)) }
+        → IsLeftFrom (body_graph body.now) (header_of body.now)
+        (at (body_graph body.now) (slice_index body.now.places.now result)) }
     ensures none { (k : ℕ) → from ≤ k → k < result
-        → ¬ IsLeftFrom (body_graph body.now) (header_of body.now) (at (body_graph body.now) (slice_index body.now.places.now k)) }
+        → ¬ IsLeftFrom (body_graph body.now) (header_of body.now)
+        (at (body_graph body.now) (slice_index body.now.places.now k)) }
 {
     let mut i = from;
     while i < body.places.len() {
@@ -70,7 +75,8 @@ fn next_exit(body: &LoopBody, from: usize) -> usize
 pub fn exit_of(body: &LoopBody) -> Option<usize>
     requires { IsLoopBody body.now }
     ensures among { IfSome result (Contains body.now.places.now) }
-    ensures some { IfSome result (λ e. IsLeftOnlyFrom (body_graph body.now) (header_of body.now) (at (body_graph body.now) e)) }
+    ensures some { IfSome result (λ e. IsLeftOnlyFrom (body_graph body.now) (header_of body.now)
+        (at (body_graph body.now) e)) }
     ensures none { IfNone result ((x : ℕ) → ¬ IsLeftOnlyFrom (body_graph body.now) (header_of body.now) x) }
 {
     let first = next_exit(body, 0);
@@ -126,7 +132,9 @@ pub fn is_passed(
     requires back { back < count_of (body_graph body.now) }
     requires closed { IsClosed (body_graph body.now) (header_of body.now) (at (body_graph body.now) back) }
     requires among { Contains body.now.places.now exit }
-    ensures passed { IfOk result (λ b. IsTrue b ↔ (¬ ReachesPast (body_graph body.now) (at (body_graph body.now) exit) (header_of body.now) (at (body_graph body.now) back))) }
+    ensures passed { IfOk result (λ b. IsTrue b
+        ↔ (¬ ReachesPast (body_graph body.now) (at (body_graph body.now) exit) (header_of body.now)
+        (at (body_graph body.now) back))) }
     ensures others { OnOk result (IsPlaceSet (count_of (body_graph body.now)) others.new) }
 {
     if exit == body.header {

@@ -18,7 +18,8 @@ fn is_shared(program: &Program, a: usize, b: usize) -> bool
     requires program { IsProgram program.now }
     requires a { a < count_of (program_graph program.now) }
     requires b { b < count_of (program_graph program.now) }
-    ensures { IsTrue result ↔ AreShared (program_graph program.now) (at (program_graph program.now) a) (at (program_graph program.now) b) }
+    ensures { IsTrue result ↔ AreShared (program_graph program.now) (at (program_graph program.now) a)
+        (at (program_graph program.now) b) }
 {
     let Some(first) = program.around.outermost[a] else {
         return false;
@@ -41,8 +42,10 @@ fn add_listed(
     requires count { length numbers.now ≡ count_of (program_graph program.now) }
     requires to { to < count_of (program_graph program.now) }
     requires from { from < count_of (program_graph program.now) }
-    ensures { OnOk result (Gained (λ z. (z ≡ from) × ((to ≤ from) × ((slice_index numbers.now to ≡ slice_index numbers.now from)
-        × ¬ AreShared (program_graph program.now) (at (program_graph program.now) to) (at (program_graph program.now) from)))) row.old.items row.new.items) }
+    ensures { OnOk result (Gained (λ z. (z ≡ from)
+        × ((to ≤ from) × ((slice_index numbers.now to ≡ slice_index numbers.now from)
+        × ¬ AreShared (program_graph program.now) (at (program_graph program.now) to)
+        (at (program_graph program.now) from)))) row.old.items row.new.items) }
 {
     if from < to {
         return Ok(());
@@ -87,7 +90,8 @@ pub fn listed_rows(
 ) -> Result<Vec<Vec<usize>>, AllocError>
     requires program { IsProgram program.now }
     requires numbers { AreNumbers (program_graph program.now) numbers.now }
-    ensures { IfOk result (λ v. AreRowsOf (program_graph program.now) (IsListed (program_graph program.now)) (rows v.items)) }
+    ensures { IfOk result (λ v. AreRowsOf (program_graph program.now) (IsListed (program_graph program.now))
+        (rows v.items)) }
 {
     let mut all = Vec::new(alloc);
     for to in 0..program.net.at.len() {

@@ -1,4 +1,5 @@
-ghost use Rattle.std.specs.Prelude.{◌≡◌, ◌↔◌, ◌<◌, ℕ, IfOk, OnOk, IsTrue, MatchOption, length, if◌then◌else◌, Some, slice_index_or, false};
+ghost use Rattle.std.specs.Prelude.{◌≡◌, ◌↔◌, ◌<◌, ℕ, IfOk, OnOk, IsTrue, MatchOption, length, if◌then◌else◌, Some};
+ghost use Rattle.std.specs.Prelude.{slice_index_or, false};
 ghost use Rattle.std.specs.List.{Contains};
 ghost use Rattle.loop_data.specs.Bodies.{IsHeader};
 ghost use Rattle.loop_shapes.specs.Kinds.{HasKind};
@@ -83,7 +84,8 @@ fn is_unsound(
     requires flags { AreFlags (program_graph program.now) (IsShaped (program_graph program.now)) shaped.now }
     requires count { length slots.old ≡ count_of (program_graph program.now) }
     requires within { place < count_of (program_graph program.now) }
-    ensures { IfOk result (λ b. IsTrue b ↔ IsUnsound (program_graph program.now) (at (program_graph program.now) place)) }
+    ensures { IfOk result (λ b. IsTrue b
+        ↔ IsUnsound (program_graph program.now) (at (program_graph program.now) place)) }
 {
     if !is_header_at(program, place) {
         return Ok(false);

@@ -31,7 +31,8 @@ fn is_shaped(
     requires count { length slots.old ≡ count_of (program_graph program.now) }
     requires others { IsPlaceSet (count_of (program_graph program.now)) others.old }
     requires within { place < count_of (program_graph program.now) }
-    ensures shaped { IfOk result (λ b. IsTrue b ↔ IsShaped (program_graph program.now) (at (program_graph program.now) place)) }
+    ensures shaped { IfOk result (λ b. IsTrue b
+        ↔ IsShaped (program_graph program.now) (at (program_graph program.now) place)) }
     ensures others { OnOk result (IsPlaceSet (count_of (program_graph program.now)) others.new) }
 {
     if !is_header_at(program, place) {
@@ -57,7 +58,8 @@ pub fn shape_flags(
     requires program { IsProgram program.now }
     requires count { length slots.old ≡ count_of (program_graph program.now) }
     requires others { IsPlaceSet (count_of (program_graph program.now)) others.old }
-    ensures flags { IfOk result (λ v. AreFlags (program_graph program.now) (IsShaped (program_graph program.now)) v.items) }
+    ensures flags { IfOk result (λ v. AreFlags (program_graph program.now)
+        (IsShaped (program_graph program.now)) v.items) }
     ensures others { OnOk result (IsPlaceSet (count_of (program_graph program.now)) others.new) }
 {
     let mut all = Vec::new(alloc);
@@ -71,7 +73,8 @@ pub fn shape_flags(
 fn add_header(program: &Program, place: usize, all: &mut Vec<u64>) -> Result<(), AllocError>
     requires program { IsProgram program.now }
     requires within { place < count_of (program_graph program.now) }
-    ensures { OnOk result (HasTriedHeader (program_graph program.now) (at (program_graph program.now) place) all.old.items all.new.items) }
+    ensures { OnOk result (HasTriedHeader (program_graph program.now)
+        (at (program_graph program.now) place) all.old.items all.new.items) }
 {
     if !is_header_at(program, place) {
         return Ok(());
@@ -90,8 +93,10 @@ pub fn headers_of(
     requires program { IsProgram program.now }
     requires each { (i : ℕ) → Contains found.now i → i < count_of (program_graph program.now) }
     requires indexed { IsIndexed found.now slots.now }
-    ensures { IfOk result (λ o. (h : ℕ) → AreAt (program_graph program.now) (InBody (program_graph program.now) h) found.now
-        → MatchOption o (¬ HasAtMost 4 (InNest (program_graph program.now) h)) (λ v. HasAll (InNest (program_graph program.now) h) v.items)) }
+    ensures { IfOk result (λ o. (h : ℕ)
+        → AreAt (program_graph program.now) (InBody (program_graph program.now) h) found.now
+        → MatchOption o (¬ HasAtMost 4 (InNest (program_graph program.now) h))
+        (λ v. HasAll (InNest (program_graph program.now) h) v.items)) }
 {
     let mut all = Vec::new(alloc);
     for place in found {
@@ -115,7 +120,8 @@ fn add_round(
 ) -> Result<(), AllocError>
     requires program { IsProgram program.now }
     requires count { length slots.old ≡ count_of (program_graph program.now) }
-    ensures { OnOk result (Gained (λ z. (z ≡ round) × ((round ≢ x) × InBody (program_graph program.now) round x)) all.old.items all.new.items) }
+    ensures { OnOk result (Gained (λ z. (z ≡ round)
+        × ((round ≢ x) × InBody (program_graph program.now) round x)) all.old.items all.new.items) }
 {
     if round == x {
         return Ok(());

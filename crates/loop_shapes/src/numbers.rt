@@ -44,7 +44,8 @@ fn successors_at(net: &Net, place: usize) -> Successors
     requires few { count_of (graph_of net.now) < 2 ^ 32 }
     requires within { place < count_of (graph_of net.now) }
     ensures { (j : ℕ) → LeadsTo result j
-        ↔ ((j < count_of (graph_of net.now)) × Leads (graph_of net.now) (at (graph_of net.now) place) (at (graph_of net.now) j)) }
+        ↔ ((j < count_of (graph_of net.now))
+        × Leads (graph_of net.now) (at (graph_of net.now) place) (at (graph_of net.now) j)) }
 {
     let steps = word_steps(net, place);
     Successors {

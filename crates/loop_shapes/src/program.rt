@@ -1,13 +1,14 @@
 ghost use Rattle.std.specs.Prelude.{◌≡◌, ◌↔◌, ◌<◌, ◌^◌, ℕ, IfOk, OnOk, IfSome, IfNone, IsTrue, length};
 ghost use Rattle.std.specs.List.{Contains};
 ghost use Rattle.std.specs.List.Sorted.{IsStrictlyIncreasing};
-ghost use Rattle.loop_data.specs.Bodies.{IsHeader, InBody};
-ghost use Rattle.loop_shapes.specs.Net.{IsNet, AreClosed, HasBody, graph_of};
+ghost use Rattle.loop_data.specs.Bodies.{IsHeader, InBody, IsClosed};
+ghost use Rattle.loop_shapes.specs.Net.{IsNet, HasBody, graph_of};
 ghost use Rattle.loop_data.specs.Paths.{Leads};
 ghost use Rattle.loop_shapes.specs.Places.{at, count_of};
 ghost use Rattle.loop_shapes.specs.Program.{IsProgram, program_graph};
 ghost use Rattle.loop_shapes.specs.Search.{IsIndexed};
 ghost use Rattle.loop_data.specs.Sets.{IsListOf};
+ghost use Rattle.loop_shapes.specs.Lines.{IsRowOf};
 
 use crate::around::{Around, none_around};
 use crate::body::body_of;
@@ -98,7 +99,7 @@ pub fn steps_of<'a>(net: &'a Net, x: u64) -> &'a [u64]
 pub fn sources_of<'a>(program: &'a Program, place: usize) -> &'a [usize]
     requires program { IsProgram program.now }
     requires within { place < count_of (program_graph program.now) }
-    ensures { AreClosed (program_graph program.now) place result.now }
+    ensures { IsRowOf (program_graph program.now) (IsClosed (program_graph program.now)) place result.now }
 {
     row_at(program.closed.as_slice(), place)
 }
@@ -123,7 +124,8 @@ pub fn find_body(
     requires count { length slots.old ≡ count_of (program_graph program.now) }
     requires within { header < count_of (program_graph program.now) }
     requires header { IsHeader (program_graph program.now) (at (program_graph program.now) header) }
-    ensures body { IfOk result (λ small. HasBody small (program_graph program.now) (at (program_graph program.now) header) found.new.items) }
+    ensures body { IfOk result (λ small. HasBody small (program_graph program.now)
+        (at (program_graph program.now) header) found.new.items) }
     ensures indexed { OnOk result (IsIndexed found.new.items slots.new) }
 {
     search(

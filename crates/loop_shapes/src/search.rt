@@ -76,7 +76,8 @@ fn add_row(
     requires at { at < length before.now }
     requires indexed { IsIndexed found.old.items slots.old }
     requires bound { length found.old.items ≤ 256 }
-    ensures { IfOk result (λ room. HasTried room found.old.items (in_row (rows before.now) at) found.new.items slots.new) }
+    ensures { IfOk result (λ room. HasTried room found.old.items
+        (in_row (rows before.now) at) found.new.items slots.new) }
 {
     add_all(found, slots, before[at].as_slice())
 }

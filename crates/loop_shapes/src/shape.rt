@@ -30,7 +30,9 @@ fn is_exit_branch(
     requires back { back < count_of (body_graph body.now) }
     requires closed { IsClosed (body_graph body.now) (header_of body.now) (at (body_graph body.now) back) }
     requires among { Contains body.now.places.now exit }
-    ensures branch { IfOk result (λ b. IsTrue b ↔ IsExitBranch (body_graph body.now) (header_of body.now) (at (body_graph body.now) back) (at (body_graph body.now) exit)) }
+    ensures branch { IfOk result (λ b. IsTrue b
+        ↔ IsExitBranch (body_graph body.now) (header_of body.now) (at (body_graph body.now) back)
+        (at (body_graph body.now) exit)) }
     ensures one { IsLeftOnlyFrom (body_graph body.now) (header_of body.now) (at (body_graph body.now) exit)
         → IsSide (body_graph body.now) (header_of body.now) (at (body_graph body.now) exit)
         → (to : ℕ) × IsOneExit (body_graph body.now) (header_of body.now) (at (body_graph body.now) exit, to) }
@@ -60,7 +62,8 @@ fn is_exit_branch(
 fn own_shape(body: &LoopBody, others: &mut PlaceSet) -> Result<Option<(usize, usize)>, AllocError>
     requires body { IsLoopBody body.now }
     requires others { IsPlaceSet (count_of (body_graph body.now)) others.old }
-    ensures shape { IfOk result (λ o. MatchOption o (¬ IsShaped (body_graph body.now) (header_of body.now)) (HasOwnShapeAt (body_graph body.now) (header_of body.now))) }
+    ensures shape { IfOk result (λ o. MatchOption o (¬ IsShaped (body_graph body.now) (header_of body.now))
+        (HasOwnShapeAt (body_graph body.now) (header_of body.now))) }
     ensures others { OnOk result (IsPlaceSet (count_of (body_graph body.now)) others.new) }
 {
     let Some(back) = back_of(body.program, body.header) else {
@@ -89,9 +92,11 @@ pub fn own_shape_at(
     requires indexed { IsIndexed places.now slots.now }
     requires short { length places.now ≤ 256 }
     requires header { header < count_of (program_graph program.now) }
-    requires words { AreAt (program_graph program.now) (InBody (program_graph program.now) (at (program_graph program.now) header)) places.now }
+    requires words { AreAt (program_graph program.now)
+        (InBody (program_graph program.now) (at (program_graph program.now) header)) places.now }
     requires others { IsPlaceSet (count_of (program_graph program.now)) others.old }
-    ensures shape { IfOk result (λ o. MatchOption o (¬ IsShaped (program_graph program.now) (at (program_graph program.now) header))
+    ensures shape { IfOk result (λ o. MatchOption o
+        (¬ IsShaped (program_graph program.now) (at (program_graph program.now) header))
         (HasOwnShapeAt (program_graph program.now) (at (program_graph program.now) header))) }
     ensures others { OnOk result (IsPlaceSet (count_of (program_graph program.now)) others.new) }
 {
