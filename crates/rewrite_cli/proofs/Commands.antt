@@ -1,5 +1,6 @@
 -- What each command has done.
-use Rattle.std.proofs.Common.{◌≡◌, ◌≢◌, ◌≤◌, ◌++◌, ℕ, ◌⊎◌, inl, inr, List, [], ◌∷◌, Option, Some, None, Ok, Result, Bool, true, false, refl, ap, sym, subst, ◌∙◌, arith}
+use Rattle.std.proofs.Common.{◌≡◌, ◌≢◌, ◌≤◌, ◌++◌, ℕ, ◌⊎◌, inl, inr, List, [], ◌∷◌, Option, Some, None, Ok, Result}
+use Rattle.std.proofs.Common.{Bool, true, false, refl, ap, sym, subst, ◌∙◌, arith}
 use Rattle.std.specs.Prelude.{take}
 use Rattle.outside_ports.specs.Ports.{Files, Rose, Lacks, SameButIn}
 use Rattle.elf_image.specs.declared.image.Elf.{Elf}
@@ -10,18 +11,23 @@ use Rattle.rewriter.specs.declared.rewriting.Rewritten.{Rewritten}
 use Rattle.rewriter.specs.Admission.{Admission, Admitted, admission_of}
 use Rattle.serial_run.specs.Serial.{start_of, serial, ended}
 use Rattle.serial_run.specs.declared.machine.End.{End}
-use Rattle.serial_run.specs.declared.machine.End.TheVariants.{Exited as DidExit, Faulted as DidFault, Spent as DidSpend, ReadFault as SourceFault, WriteFault as SinkFault}
+use Rattle.serial_run.specs.declared.machine.End.TheVariants.{Exited as DidExit, Faulted as DidFault, Spent as DidSpend}
+use Rattle.serial_run.specs.declared.machine.End.TheVariants.{ReadFault as SourceFault, WriteFault as SinkFault}
 use Rattle.rewrite_cli.specs.Words.{Run, Rewrite, Loops}
 use Rattle.rewrite_cli.specs.Listing.{Lines, TooMany, IsListing}
 use Rattle.rewrite_cli.specs.Needs.{LacksOne}
 use Rattle.rewrite_cli.specs.Counts.{no_counts}
 use Rattle.rewrite_cli.specs.Texts.{report_of}
 use Rattle.rewrite_cli.specs.Status.{is_from_outside, comes_first}
-use Rattle.rewrite_cli.specs.Effect.{Effect, IsMomentOf, Does, Passes, StartsRun, HoldsImage, HoldsLines, OfImage, OfReading, Runs, RunsFile, ListsFile, OfFile, load_limit, only, ran, status_of, listed, image_saved, counts_of}
-use Rattle.rewrite_cli.specs.Answer.{Stored, Stream, Outside, outside, Appends, AreSaved, StayBut, IsMet, Stops, HasCause, IsDone, RunsTo}
+use Rattle.rewrite_cli.specs.Effect.{Effect, IsMomentOf, Does, Passes, StartsRun, HoldsImage, HoldsLines, OfImage}
+use Rattle.rewrite_cli.specs.Effect.{OfReading, Runs, RunsFile, ListsFile, OfFile, load_limit, only, ran, status_of}
+use Rattle.rewrite_cli.specs.Effect.{listed, image_saved, counts_of}
+use Rattle.rewrite_cli.specs.Answer.{Stored, Stream, Outside, outside, Appends, AreSaved, StayBut, IsMet, Stops}
+use Rattle.rewrite_cli.specs.Answer.{HasCause, IsDone, RunsTo}
 use Rattle.rewrite_cli.specs.declared.status.Reason.TheVariants.{TooManyWords}
 use Rattle.rewrite_cli.specs.declared.status.Status.{Status}
-use Rattle.rewrite_cli.specs.declared.status.Status.TheVariants.{Done, Usage, Refused, OutOfMemory, WriteFault, StoreFault, ReadFault}
+use Rattle.rewrite_cli.specs.declared.status.Status.TheVariants.{Done, Usage, Refused, OutOfMemory, WriteFault}
+use Rattle.rewrite_cli.specs.declared.status.Status.TheVariants.{StoreFault, ReadFault}
 use Rattle.rewrite_cli.proofs.Done.{appends_nothing, same_but, same_but_one, ended_done}
 use Rattle.rewrite_cli.proofs.Loaded.{loaded}
 
@@ -264,11 +270,13 @@ pub run_answers : (content : Option (List ℕ)) (image : Image) (fuel : ℕ) (du
 run_answers content image fuel dump xs status h does = of_some (rw h.are at does)
   where
     of_admitted : OfImage (Runs fuel dump xs) xs (Admitted image) (only status xs) → comes_first status ≡ false
-    of_admitted e = ap (λ (v : Effect). comes_first v.status) e ∙ late_status (ended (serial fuel (start_of image.elf xs)))
+    of_admitted e =
+        ap (λ (v : Effect). comes_first v.status) e ∙ late_status (ended (serial fuel (start_of image.elf xs)))
 
     of_some : OfFile load_limit (RunsFile fuel dump xs) xs (Some h.bytes) (only status xs) → comes_first status ≡ false
     of_some (inl p) = let long = p.0 in let short = h.within in absurd (omega arith)
-    of_some (inr p) = of_admitted (subst (λ (v : Admission). OfImage (Runs fuel dump xs) xs v (only status xs)) h.admitted p.1)
+    of_some (inr p) =
+        of_admitted (subst (λ (v : Admission). OfImage (Runs fuel dump xs) xs v (only status xs)) h.admitted p.1)
 
 -- also where memory is wanted in its place
 pub kept_late : (status answer : Status) → (answer ≡ status) ⊎ (answer ≡ OutOfMemory)

@@ -1,11 +1,13 @@
 -- What a command has done, from the answers of its steps.
-use Rattle.std.proofs.Common.{◌≡◌, ◌≢◌, ℕ, ◌⊎◌, inl, inr, List, [], ◌∷◌, Option, Some, None, true, false, refl, ap, sym, subst, ◌∙◌}
+use Rattle.std.proofs.Common.{◌≡◌, ◌≢◌, ℕ, ◌⊎◌, inl, inr, List, [], ◌∷◌, Option, Some, None, true, false, refl, ap, sym}
+use Rattle.std.proofs.Common.{subst, ◌∙◌}
 use Rattle.std.proofs.lemmas.List.{append-nil}
 use Rattle.outside_ports.specs.Ports.{Files, Rose, SameButIn}
 use Rattle.rewrite_cli.specs.Words.{Command}
 use Rattle.rewrite_cli.specs.Needs.{needs_of, LacksOne, SameBut}
 use Rattle.rewrite_cli.specs.Effect.{Effect, Does, StartsRun, only}
-use Rattle.rewrite_cli.specs.Answer.{Stored, Stream, Outside, outside, IsGiven, Tells, Appends, Leaves, AreSaved, StayBut, IsMet, StopsBehind, HasCause, IsDone}
+use Rattle.rewrite_cli.specs.Answer.{Stored, Stream, Outside, outside, IsGiven, Tells, Appends, Leaves, AreSaved}
+use Rattle.rewrite_cli.specs.Answer.{StayBut, IsMet, StopsBehind, HasCause, IsDone, LeavesAlone}
 use Rattle.rewrite_cli.specs.Counts.{no_counts}
 use Rattle.rewrite_cli.specs.Status.{is_from_outside, is_refusal, comes_first, keeps_files}
 use Rattle.rewrite_cli.specs.Texts.{report_of}
@@ -242,3 +244,21 @@ pub late_given : (answer given : Status) (text : List ℕ) (before after : Strea
     → IsGiven answer text before after given → comes_first answer ≡ false → comes_first given ≡ false
 late_given answer given text before after (inl g) late = ap comes_first g.0 ∙ late
 late_given answer given text before after (inr g) late = ap comes_first g.0
+
+pub alone_given : {S I O : Type 0} (command : Option Command) (files : Option Files) (answer given : Status)
+    (text : List ℕ) (before after : Stream) (store saved : S) (input read : I) (output written : O)
+    → IsGiven answer text before after given
+    → LeavesAlone command files answer store saved input read output written
+    → LeavesAlone command files given store saved input read output written
+alone_given command files answer given text before after store saved input read output written (inl g) h =
+    subst (λ (v : Status). LeavesAlone command files v store saved input read output written) (sym g.0) h
+alone_given command files answer given text before after store saved input read output written (inr g) h =
+    record {
+      refused = λ first. let late = rw g.0 at first in absurd (cc);
+      unread = h.unread;
+      unwritten = h.unwritten;
+      unsaved = λ none failed. let other : WriteFault ≡ StoreFault = sym g.0 ∙ failed in absurd (cc);
+      store_unasked = h.store_unasked;
+      input_unasked = h.input_unasked;
+      output_unasked = h.output_unasked;
+    }

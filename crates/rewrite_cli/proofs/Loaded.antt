@@ -1,5 +1,6 @@
 -- What is done with files.
-use Rattle.std.proofs.Common.{◌≡◌, ◌≤◌, ℕ, inl, inr, List, [], ◌∷◌, length, Option, Some, None, Bool, true, false, refl, ap, subst}
+use Rattle.std.proofs.Common.{◌≡◌, ◌≤◌, ℕ, inl, inr, List, [], ◌∷◌, length, Option, Some, None, Bool, true, false, refl}
+use Rattle.std.proofs.Common.{ap, subst}
 use Rattle.std.specs.Prelude.{if◌then◌else◌}
 use Rattle.rv64_decode.specs.Area.{Area}
 use Rattle.guest_memory.specs.Spans.{all_bytes}

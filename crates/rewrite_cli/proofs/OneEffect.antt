@@ -12,7 +12,8 @@ use Rattle.rewriter.specs.Rewriting.{rewriting_of}
 use Rattle.rewriter.specs.declared.rewriting.Rewritten.{Rewritten}
 use Rattle.rewrite_cli.specs.Words.{Run, Rewrite, Loops}
 use Rattle.rewrite_cli.specs.Listing.{Listing, Lines, TooMany, AreLines, IsListing, lines_of}
-use Rattle.rewrite_cli.specs.Effect.{Effect, OfFile, OfImage, OfRewriting, OfReading, RunsFile, Runs, RewritesFile, ListsFile, load_limit, listed}
+use Rattle.rewrite_cli.specs.Effect.{Effect, OfFile, OfImage, OfRewriting, OfReading, RunsFile, Runs, RewritesFile}
+use Rattle.rewrite_cli.specs.Effect.{ListsFile, load_limit, listed}
 use Rattle.rewrite_cli.specs.Answer.{OneEffect}
 
 abbrev OneGraph : Type 0

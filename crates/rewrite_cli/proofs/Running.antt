@@ -1,5 +1,6 @@
 -- What a run has done, from the run of its machine.
-use Rattle.std.proofs.Common.{◌≡◌, ◌≢◌, ◌≤◌, ◌++◌, ℕ, suc, ◌⊎◌, inl, inr, List, Option, Some, None, true, false, refl, ap, sym, subst, ◌∙◌, append_assoc, arith}
+use Rattle.std.proofs.Common.{◌≡◌, ◌≢◌, ◌≤◌, ◌++◌, ℕ, suc, ◌⊎◌, inl, inr, List, Option, Some, None, true, false, refl}
+use Rattle.std.proofs.Common.{ap, sym, subst, ◌∙◌, append_assoc, arith}
 use Rattle.std.proofs.lemmas.List.{append-nil, append_cancel_left}
 use Rattle.std.specs.Prelude.{take, unwrap_or, is_some, IsNone}
 use Rattle.outside_ports.specs.Ports.{Files, Rose}
@@ -7,7 +8,8 @@ use Rattle.outside_ports.specs.Fakes.{File}
 use Rattle.elf_image.specs.declared.image.Elf.{Elf}
 use Rattle.serial_run.specs.declared.machine.Machine.{Machine}
 use Rattle.serial_run.specs.declared.machine.End.{End}
-use Rattle.serial_run.specs.declared.machine.End.TheVariants.{Exited as DidExit, Faulted as DidFault, Spent as DidSpend, ReadFault as SourceFault, WriteFault as SinkFault}
+use Rattle.serial_run.specs.declared.machine.End.TheVariants.{Exited as DidExit, Faulted as DidFault, Spent as DidSpend}
+use Rattle.serial_run.specs.declared.machine.End.TheVariants.{ReadFault as SourceFault, WriteFault as SinkFault}
 use Rattle.serial_run.specs.Serial.{State, start_machine, start_of, ended, serial, executed_of}
 use Rattle.serial_run.specs.Runs.{configuration_of, Runs, WritesPart, is_port_fault}
 use Rattle.rewrite_cli.specs.Counts.{of_steps, no_counts}
@@ -82,7 +84,14 @@ fault_stops grows elf fuel m xs store now input read output written start machin
     let more = grows stop.count (suc stop.count) s (omega arith) in (
       record { output = (serial stop.count s).output; more = more.0; rest = (serial stop.count s).rest },
       (
-        record { count = stop.count; below = stop.below; running = stop.running; output = refl; more = more.1; rest = refl },
+        record {
+          count = stop.count;
+          below = stop.below;
+          running = stop.running;
+          output = refl;
+          more = more.1;
+          rest = refl;
+        },
         record {
           why = why_stopped answer end kind;
           output = λ ys told_out.

@@ -6,7 +6,7 @@ use Rattle.rewrite_cli.specs.Words.{Command}
 use Rattle.rewrite_cli.specs.Needs.{needs_of, names_of, LacksOne, SameBut}
 use Rattle.elf_image.specs.declared.image.Elf.{Elf}
 use Rattle.serial_run.specs.Serial.{start_of}
-use Rattle.rewrite_cli.specs.Effect.{Effect, Does, StartsRun, Moment, IsMomentOf, Passes, ran}
+use Rattle.rewrite_cli.specs.Effect.{Effect, Does, StartsRun, StartsOutput, Moment, IsMomentOf, Passes, ran}
 use Rattle.rewrite_cli.specs.Status.{is_from_outside, comes_first}
 use Rattle.rewrite_cli.specs.Texts.{report_of}
 use Rattle.rewrite_cli.specs.declared.counts.Counts.{Counts}
@@ -174,6 +174,22 @@ pub record IsAnswered (command : Option Command) (before after : Outside) (repor
   pub text : List ℕ
   pub is_done : IsDone command before after answer text
   pub is_given : IsGiven answer text report reported given
+
+-- what a command of this answer leaves as it was, whatever the ports tell: the store, the input and the output
+-- as they stand in the program, before and after. What the store has under FILE tells whether a run starts
+pub record LeavesAlone {S I O : Type 0} (command : Option Command) (files : Option Files) (answer : Status)
+    (store saved : S) (input read : I) (output written : O) : Type 0 where
+  -- input and output after a refusal
+  pub refused : comes_first answer ≡ true → (read ≡ input) × (written ≡ output)
+  -- the input where no guest's run starts, and the output where there is none
+  pub unread : (m : Files) → files ≡ Some m → ¬ StartsRun command m → read ≡ input
+  pub unwritten : (m : Files) → files ≡ Some m → ¬ StartsOutput command m → written ≡ output
+  -- both where a command that saves no file answers that the store failed
+  pub unsaved : (needs_of command).saves ≡ [] → answer ≡ StoreFault → (read ≡ input) × (written ≡ output)
+  -- what the command does not need is not asked
+  pub store_unasked : (needs_of command).loads ≡ [] → (needs_of command).saves ≡ [] → saved ≡ store
+  pub input_unasked : (needs_of command).reads ≡ false → read ≡ input
+  pub output_unasked : (needs_of command).writes ≡ false → written ≡ output
 
 -- ---- laws
 

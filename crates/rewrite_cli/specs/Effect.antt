@@ -1,5 +1,6 @@
 -- What a command does where the outside does not fail and memory is found.
-use Rattle.std.specs.Prelude.{ℕ, suc, ◌≡◌, ◌⊎◌, ◌<◌, ◌≤◌, ◌++◌, if◌then◌else◌, List, [], ◌∷◌, Option, Some, None, Result, Ok, Err, length, IsNone}
+use Rattle.std.specs.Prelude.{ℕ, suc, ◌≡◌, ◌⊎◌, ◌<◌, ◌≤◌, ◌++◌, if◌then◌else◌, List, [], ◌∷◌, Option, Some, None}
+use Rattle.std.specs.Prelude.{Result, Ok, Err, length, IsNone}
 use Rattle.outside_ports.specs.Ports.{Files}
 use Rattle.outside_ports.specs.Fakes.{File}
 use Rattle.rv64_decode.specs.Area.{Area}
@@ -9,7 +10,8 @@ use Rattle.elf_image.specs.Reading.{reading_of}
 use Rattle.guest_memory.specs.Spans.{all_bytes}
 use Rattle.serial_run.specs.Serial.{State, start_of, ended, serial, executed_of}
 use Rattle.serial_run.specs.declared.machine.End.{End}
-use Rattle.serial_run.specs.declared.machine.End.TheVariants.{Exited as DidExit, Faulted as DidFault, Spent as DidSpend, ReadFault as SourceFault, WriteFault as SinkFault}
+use Rattle.serial_run.specs.declared.machine.End.TheVariants.{Exited as DidExit, Faulted as DidFault, Spent as DidSpend}
+use Rattle.serial_run.specs.declared.machine.End.TheVariants.{ReadFault as SourceFault, WriteFault as SinkFault}
 use Rattle.image_writer.specs.declared.image.Image.{Image}
 use Rattle.rewriter.specs.declared.rewriting.Rewritten.{Rewritten}
 use Rattle.rewriter.specs.declared.rewriting.RewriteErr.{RewriteErr}
@@ -26,7 +28,8 @@ use Rattle.rewrite_cli.specs.declared.counts.Counts.{Counts}
 use Rattle.rewrite_cli.specs.declared.counts.Counts.TheVariants.{Image as Adds}
 use Rattle.rewrite_cli.specs.declared.status.Reason.TheVariants.{LoadTooLong, TooManyWords, BadMark, Altered}
 use Rattle.rewrite_cli.specs.declared.status.Status.{Status}
-use Rattle.rewrite_cli.specs.declared.status.Status.TheVariants.{Done, Exited, Faulted, Spent, Usage, Refused, ReadFault, WriteFault, OutOfMemory}
+use Rattle.rewrite_cli.specs.declared.status.Status.TheVariants.{Done, Exited, Faulted, Spent, Usage, Refused}
+use Rattle.rewrite_cli.specs.declared.status.Status.TheVariants.{ReadFault, WriteFault, OutOfMemory}
 
 pub record Effect : Type 0 where
   pub status : Status

@@ -3,7 +3,12 @@ use Rattle.std.specs.Prelude.{ℕ, List, [], ◌++◌, codes, decimal, Option, S
 use Rattle.elf_image.specs.declared.rules.ElfErr.{ElfErr}
 use Rattle.elf_image.specs.declared.rules.ElfErr.TheVariants as elf
 use Rattle.rewrite_cli.specs.declared.status.Reason.{Reason}
-use Rattle.rewrite_cli.specs.declared.status.Reason.TheVariants.{LoadTooLong, TooLong, NotElf, HeaderCut, Class, ByteOrder, Version, FileType, Machine, Flags, HeaderSize, TooManyHeaders, Marked, SegmentSize, SegmentCut, Dynamic, WritableCode, Range, TooMuchMemory, Overlap, EntryOutside, TooManyWords, BadMark, Altered}
+use Rattle.rewrite_cli.specs.declared.status.Reason.TheVariants.{LoadTooLong, TooLong, NotElf, HeaderCut, Class}
+use Rattle.rewrite_cli.specs.declared.status.Reason.TheVariants.{ByteOrder, Version, FileType, Machine, Flags}
+use Rattle.rewrite_cli.specs.declared.status.Reason.TheVariants.{HeaderSize, TooManyHeaders, Marked, SegmentSize}
+use Rattle.rewrite_cli.specs.declared.status.Reason.TheVariants.{SegmentCut, Dynamic, WritableCode, Range}
+use Rattle.rewrite_cli.specs.declared.status.Reason.TheVariants.{TooMuchMemory, Overlap, EntryOutside, TooManyWords}
+use Rattle.rewrite_cli.specs.declared.status.Reason.TheVariants.{BadMark, Altered}
 use Rattle.rewrite_cli.specs.declared.status.Status.{Status}
 use Rattle.rewrite_cli.specs.declared.status.Status.TheVariants.{Refused, OutOfMemory}
 

@@ -1,7 +1,8 @@
 -- What a command answers.
 use Rattle.std.specs.Prelude.{ℕ, Bool, true, false}
 use Rattle.rewrite_cli.specs.declared.status.Status.{Status}
-use Rattle.rewrite_cli.specs.declared.status.Status.TheVariants.{Done, Exited, Faulted, Spent, Usage, Refused, StoreFault, ReadFault, WriteFault, OutOfMemory}
+use Rattle.rewrite_cli.specs.declared.status.Status.TheVariants.{Done, Exited, Faulted, Spent, Usage, Refused}
+use Rattle.rewrite_cli.specs.declared.status.Status.TheVariants.{StoreFault, ReadFault, WriteFault, OutOfMemory}
 
 -- the exit status of the program
 abbrev pub exit_number_of : Status → ℕ

@@ -4,13 +4,15 @@ use Rattle.std.specs.Fmt.{digits, padded_integral, format_spec}
 use Rattle.rv64_decode.specs.declared.memory.MemFault.{MemFault}
 use Rattle.rv64_decode.specs.declared.memory.MemFault.TheVariants.{Misaligned, Unmapped, Denied}
 use Rattle.rv64_decode.specs.declared.outcome.Fault.{Fault}
-use Rattle.rv64_decode.specs.declared.outcome.Fault.TheVariants.{Fetch, Illegal, Break, Target, Load as LoadFault, Store as StoreRefused}
+use Rattle.rv64_decode.specs.declared.outcome.Fault.TheVariants.{Fetch, Illegal, Break, Target, Load as LoadFault}
+use Rattle.rv64_decode.specs.declared.outcome.Fault.TheVariants.{Store as StoreRefused}
 use Rattle.rewrite_cli.specs.Refusals.{reason_text}
 use Rattle.rewrite_cli.specs.declared.status.Status.{Status}
 use Rattle.rewrite_cli.specs.Counts.{steps_of}
 use Rattle.rewrite_cli.specs.declared.counts.Counts.{Counts}
 use Rattle.rewrite_cli.specs.declared.counts.Counts.TheVariants.{Image}
-use Rattle.rewrite_cli.specs.declared.status.Status.TheVariants.{Done, Exited, Faulted, Spent, Usage, Refused, StoreFault, ReadFault, WriteFault, OutOfMemory}
+use Rattle.rewrite_cli.specs.declared.status.Status.TheVariants.{Done, Exited, Faulted, Spent, Usage, Refused}
+use Rattle.rewrite_cli.specs.declared.status.Status.TheVariants.{StoreFault, ReadFault, WriteFault, OutOfMemory}
 
 -- a line
 abbrev pub line : List ℕ → List ℕ

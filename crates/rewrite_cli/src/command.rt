@@ -1,11 +1,11 @@
-ghost use Rattle.std.specs.Prelude.{◌≡◌, ◌≤◌, ◌⊎◌, [], Some, None, length, map, string_bytes, true, false};
+ghost use Rattle.std.specs.Prelude.{◌≡◌, ◌≤◌, ◌⊎◌, Some, length, map, string_bytes, true, false};
 ghost use Rattle.outside_ports.specs.Ports.{Files, Rose};
 ghost use Rattle.rewrite_cli.specs.Words.{command_of};
 ghost use Rattle.rewrite_cli.specs.Reading.{command_shown, text_of};
 ghost use Rattle.rewrite_cli.specs.Needs.{needs_of};
 ghost use Rattle.rewrite_cli.specs.Status.{comes_first, keeps_files};
-ghost use Rattle.rewrite_cli.specs.Effect.{StartsRun, StartsOutput};
-ghost use Rattle.rewrite_cli.specs.Answer.{IsAnswered, IsDone, outside, stored, stream};
+ghost use Rattle.rewrite_cli.specs.Effect.{StartsRun};
+ghost use Rattle.rewrite_cli.specs.Answer.{IsAnswered, IsDone, LeavesAlone, outside, stored, stream};
 
 use crate::counts::NO_COUNTS;
 use crate::listing::list_file;
@@ -35,18 +35,8 @@ fn perform<S: Store, I: Source, O: Sink>(
         → comes_first result.status ≡ false }
     ensures kept { keeps_files result.status ≡ true → S.files store.new ≡ S.files store.old }
     ensures wanting { result.status ≡ Status.OutOfMemory → S.files store.new ≡ S.files store.old }
-    ensures unsaved { (needs_of (command_shown command.entry)).saves ≡ [] → result.status ≡ Status.StoreFault
-        → (input.new ≡ input.old) × (out.new ≡ out.old) }
-    ensures refused { comes_first result.status ≡ true → (input.new ≡ input.old) × (out.new ≡ out.old) }
-    ensures unread { (m : Files) → S.files store.old ≡ Some m → ¬ StartsRun (command_shown command.entry) m
-        → input.new ≡ input.old }
-    ensures unwritten { (m : Files) → S.files store.old ≡ Some m → ¬ StartsOutput (command_shown command.entry) m
-        → out.new ≡ out.old }
-    ensures store_unasked { (needs_of (command_shown command.entry)).loads ≡ []
-        → (needs_of (command_shown command.entry)).saves ≡ []
-        → store.new ≡ store.old }
-    ensures input_unasked { (needs_of (command_shown command.entry)).reads ≡ false → input.new ≡ input.old }
-    ensures output_unasked { (needs_of (command_shown command.entry)).writes ≡ false → out.new ≡ out.old }
+    ensures untouched { LeavesAlone (command_shown command.entry) (S.files store.old) result.status
+        store.old store.new input.old input.new out.old out.new }
 {
     match command {
         Command::Unknown => reply_with(alloc, Status::Usage, &NO_COUNTS),
@@ -79,33 +69,22 @@ pub fn command<R: Threads + Sync, S: Store, I: Source, O: Sink, P: Sink, G: Gate
         (stream (P.written report.old) (P.faults report.old)) (stream (P.written report.new) (P.faults report.new))
         result }
 
-    // What is not touched: input and output after a refusal, and by what the store has under FILE, which also
-    // tells whether there is a refusal of a run.
-    ensures refused { comes_first result ≡ true → (input.new ≡ input.old) × (out.new ≡ out.old) }
-    ensures unread { (m : Files) → S.files store.old ≡ Some m → ¬ StartsRun (command_of (map string_bytes words.now)) m
-        → input.new ≡ input.old }
+    // What is not touched of the store, the input and the output.
+    ensures untouched { LeavesAlone (command_of (map string_bytes words.now)) (S.files store.old) result
+        store.old store.new input.old input.new out.old out.new }
+
+    // Whether a run is refused: not where the store has an image under FILE.
     ensures started { (m : Files) → S.files store.old ≡ Some m → StartsRun (command_of (map string_bytes words.now)) m
         → comes_first result ≡ false }
-    ensures unwritten { (m : Files) → S.files store.old ≡ Some m
-        → ¬ StartsOutput (command_of (map string_bytes words.now)) m
-        → out.new ≡ out.old }
 
     // Which answers leave all files as they were, whatever the ports tell: the report may have failed behind
     // a save.
     ensures kept { keeps_files result ≡ true
         → ((result ≡ Status.WriteFault) × Rose (P.faults report.old) (P.faults report.new))
         ⊎ (S.files store.new ≡ S.files store.old) }
-    ensures wanting { result ≡ Status.OutOfMemory → length (needs_of (command_of (map string_bytes words.now))).saves ≤ 1
+    ensures wanting { result ≡ Status.OutOfMemory
+        → length (needs_of (command_of (map string_bytes words.now))).saves ≤ 1
         → S.files store.new ≡ S.files store.old }
-    ensures unsaved { (needs_of (command_of (map string_bytes words.now))).saves ≡ [] → result ≡ Status.StoreFault
-        → (input.new ≡ input.old) × (out.new ≡ out.old) }
-
-    // What the command does not need is not asked.
-    ensures store_unasked { let needs = needs_of (command_of (map string_bytes words.now)) in needs.loads ≡ []
-        → needs.saves ≡ []
-        → store.new ≡ store.old }
-    ensures input_unasked { (needs_of (command_of (map string_bytes words.now))).reads ≡ false → input.new ≡ input.old }
-    ensures output_unasked { (needs_of (command_of (map string_bytes words.now))).writes ≡ false → out.new ≡ out.old }
 {
     let command = command_from(words);
     let reply = perform(alloc, command, store, input, out);

@@ -1,4 +1,5 @@
-ghost use Rattle.std.specs.Prelude.{◌≡◌, ◌+◌, ◌-◌, ◌<◌, ◌≤◌, ◌++◌, ◌⊎◌, ◌≢◌, ℕ, List, Some, take, string_bytes, codes, decimal, IfOk, OnOk, OnErr};
+ghost use Rattle.std.specs.Prelude.{◌≡◌, ◌+◌, ◌-◌, ◌<◌, ◌≤◌, ◌++◌, ◌⊎◌, ◌≢◌, ℕ, List, Some};
+ghost use Rattle.std.specs.Prelude.{take, string_bytes, codes, decimal, IfOk, OnOk, OnErr};
 ghost use Rattle.outside_ports.specs.Ports.{Rose};
 ghost use Rattle.rewrite_cli.specs.Counts.{of_steps};
 ghost use Rattle.rewrite_cli.specs.Texts.{report_of, done_text, fault_text, why_text, count_lines, line};

@@ -1,9 +1,8 @@
-use Rattle.std.proofs.Common.{ap, ◌∙◌, sym, subst, Option}
-use Rattle.rewrite_cli.specs.Needs.{needs_of}
+use Rattle.std.proofs.Common.{sym, subst, Option}
 use Rattle.rewrite_cli.specs.Effect.{StartsRun}
 use Rattle.rewrite_cli.specs.Reading.{text_of}
 use Rattle.rewrite_cli.specs.Words.{Command}
-use Rattle.rewrite_cli.proofs.Done.{kept_given, same_given, late_given}
+use Rattle.rewrite_cli.proofs.Done.{kept_given, same_given, late_given, alone_given}
 use Rattle.rewrite_cli.proofs.command.command.Goals as goal
 
 pub returns-clause-answered : goal.returns-clause-answered
@@ -19,13 +18,13 @@ pub returns-clause-kept : goal.returns-clause-kept
 returns-clause-kept g c = kept_given _ _ _ _ _ _ c.give.ensures c.perform-reply.ensures.kept
 
 pub returns-clause-wanting : goal.returns-clause-wanting
-returns-clause-wanting g c = λ e few. same_given _ _ _ _ _ _ _ c.give.ensures c.perform-reply.ensures.wanting (λ v. cc) e
+returns-clause-wanting g c = λ e few.
+    same_given _ _ _ _ _ _ _ c.give.ensures c.perform-reply.ensures.wanting (λ v. cc) e
 
-pub returns-clause-unsaved : goal.returns-clause-unsaved
-returns-clause-unsaved g c = λ none e.
-    same_given _ _ _ _ _ _ _ c.give.ensures
-    (c.perform-reply.ensures.unsaved (ap (λ (v : Option Command). (needs_of v).saves) c.command_from-command.ensures ∙ none))
-    (λ v. cc) e
+pub returns-clause-untouched : goal.returns-clause-untouched
+returns-clause-untouched g c =
+    alone_given _ _ _ _ _ _ _ _ _ _ _ _ _ c.give.ensures
+    (rw (← c.command_from-command.ensures) c.perform-reply.ensures.untouched)
 
 pub returns-clause-started : goal.returns-clause-started
 returns-clause-started g c = λ m files starts.
