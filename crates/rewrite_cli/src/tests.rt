@@ -1,20 +1,16 @@
 use crate::command::command;
-use crate::counts::{Counts, NO_COUNTS};
-use crate::report::report_text;
-use crate::run::run_file;
-use crate::status::{Reason, Status};
+use crate::status::Status;
 use outside_ports::{MemSink, MemSource, MemStore, NoGate};
-use rv64_decode::{Fault, MemFault};
 use std::alloc::{AllocError, Global};
-use std::test::Fail;
+use std::process::Abort;
 use std::thread::Threads;
 
+mod answers;
 mod dumps;
 mod files;
+mod images;
 mod lists;
-
-const USAGE: &str =
-    "usage: list FILE | rewrite FILE NEW | run FILE HARTS [FUEL [DUMP]] | replay FILE HARTS ORDER | make KIND N NEW\n";
+mod runs;
 
 // Writes the six bytes behind it and ends with code 0.
 static HELLO: [u32; 9] = [
@@ -28,6 +24,8 @@ static HELLO: [u32; 9] = [
     0x05d0_0893, // addi a7,x0,93
     0x0000_0073, // ecall
 ];
+
+const HELLO_REPORT: &str = "hart 0 instructions 9\nsteps 9\nexit 0\n";
 
 // Ends with code 0.
 static EXIT: [u32; 2] = [
@@ -51,111 +49,6 @@ static ECHO: [u32; 12] = [
     0x0000_0073, // ecall
 ];
 
-// A program of a few words that faults, or ends, and the report of its run.
-#[derive(Clone, Copy)]
-struct Ending {
-    code: &'static [u32],
-    report: &'static str,
-    number: u8,
-}
-
-static ENDINGS: [Ending; 14] = [
-    Ending {
-        code: &[0x0000_0053], // no instruction
-        report: "hart 0 instructions 1\nsteps 1\nfault illegal pc 0x0000000000010078 addr 0x0000000000000053\n",
-        number: 120,
-    },
-    Ending {
-        code: &[0x7890_006f], // jal x0,0x11000, where the heap begins
-        report: "hart 0 instructions 2\nsteps 2\nfault fetch pc 0x0000000000011000 addr 0x0000000000011000\n",
-        number: 120,
-    },
-    Ending {
-        code: &[0x0001_1363], // bne sp,x0,+6
-        report: "hart 0 instructions 1\nsteps 1\nfault target pc 0x0000000000010078 addr 0x000000000001007e\n",
-        number: 120,
-    },
-    Ending {
-        code: &[
-            0x0000_1363, // bne x0,x0,+6
-            0x0010_0073, // ebreak
-        ],
-        report: "hart 0 instructions 2\nsteps 2\nfault break pc 0x000000000001007c addr 0x000000000001007c\n",
-        number: 120,
-    },
-    Ending {
-        code: &[0x0041_3503], // ld a0,4(sp)
-        report: "hart 0 instructions 1\nsteps 1\nfault load-misaligned pc 0x0000000000010078 addr 0x000000007f7fffc4\n",
-        number: 120,
-    },
-    Ending {
-        code: &[0x0000_3503], // ld a0,0(x0)
-        report: "hart 0 instructions 1\nsteps 1\nfault load-unmapped pc 0x0000000000010078 addr 0x0000000000000000\n",
-        number: 120,
-    },
-    Ending {
-        code: &[
-            0x0001_0537, // lui a0,0x10
-            0x0005_3023, // sd x0,0(a0)
-        ],
-        report: "hart 0 instructions 2\nsteps 2\nfault store-denied pc 0x000000000001007c addr 0x0000000000010000\n",
-        number: 120,
-    },
-    Ending {
-        code: &[
-            0x0001_0537, // lui a0,0x10
-            0x0005_3223, // sd x0,4(a0)
-        ],
-        report: "hart 0 instructions 2\nsteps 2\nfault store-misaligned pc 0x000000000001007c addr 0x0000000000010004\n",
-        number: 120,
-    },
-    Ending {
-        code: &[
-            0x6000_0537, // lui a0,0x60000
-            0x0005_3023, // sd x0,0(a0)
-        ],
-        report: "hart 0 instructions 2\nsteps 2\nfault store-unmapped pc 0x000000000001007c addr 0x0000000060000000\n",
-        number: 120,
-    },
-    Ending {
-        code: &[
-            0x6000_0537, // lui a0,0x60000
-            0x0005_0067, // jalr x0,0(a0)
-        ],
-        report: "hart 0 instructions 3\nsteps 3\nfault fetch pc 0x0000000060000000 addr 0x0000000060000000\n",
-        number: 120,
-    },
-    Ending {
-        code: &[0x0040_3503], // ld a0,4(x0)
-        report: "hart 0 instructions 1\nsteps 1\nfault load-misaligned pc 0x0000000000010078 addr 0x0000000000000004\n",
-        number: 120,
-    },
-    Ending {
-        code: &[0x0000_3223], // sd x0,4(x0)
-        report: "hart 0 instructions 1\nsteps 1\nfault store-misaligned pc 0x0000000000010078 addr 0x0000000000000004\n",
-        number: 120,
-    },
-    // The code is taken modulo 256, and may be the status of another answer.
-    Ending {
-        code: &[
-            0x17b0_0513, // addi a0,x0,379
-            0x05d0_0893, // addi a7,x0,93
-            0x0000_0073, // ecall
-        ],
-        report: "hart 0 instructions 3\nsteps 3\nexit 123\n",
-        number: 123,
-    },
-    Ending {
-        code: &[
-            0xfff0_0513, // addi a0,x0,-1
-            0x05e0_0893, // addi a7,x0,94
-            0x0000_0073, // ecall
-        ],
-        report: "hart 0 instructions 3\nsteps 3\nexit 255\n",
-        number: 255,
-    },
-];
-
 // The words in order, each with its lowest byte first.
 fn bytes_of(alloc: Global, words: &[u32]) -> Result<Vec<u8>, AllocError> {
     let mut bytes = Vec::new(alloc);
@@ -167,10 +60,10 @@ fn bytes_of(alloc: Global, words: &[u32]) -> Result<Vec<u8>, AllocError> {
 
 // An executable whose one segment is the whole file, at 0x10000 and not writable. This code stands at
 // its entry 0x10078, and this text behind it.
-fn program(alloc: Global, code: &[u32], text: &str) -> Result<Vec<u8>, Fail> {
+fn program(alloc: Global, code: &[u32], text: &str) -> Result<Vec<u8>, AllocError> {
     let mut tail = bytes_of(alloc, code)?;
     tail.extend_from_slice(text.as_bytes())?;
-    let size = u32::try_from(tail.len())?.wrapping_add(120);
+    let size = u32::try_from(tail.len()).unwrap_or(0).wrapping_add(120);
     let header: [u32; 30] = [
         0x464c_457f,
         0x0001_0102,
@@ -208,24 +101,84 @@ fn program(alloc: Global, code: &[u32], text: &str) -> Result<Vec<u8>, Fail> {
     Ok(bytes)
 }
 
-// Which call of each port fails, by its number from 0.
+// Which call of each port fails, by its number from 0: a load and a save are calls of the store.
 #[derive(Clone, Copy)]
 struct Failing {
-    load: Option<u64>,
+    store: Option<u64>,
     read: Option<u64>,
     write: Option<u64>,
     report: Option<u64>,
 }
 
 const NONE_FAILS: Failing = Failing {
-    load: None,
+    store: None,
     read: None,
     write: None,
     report: None,
 };
 
-// What a command is given from outside: a store with one file, `file`, an input that gives a byte in
-// each call, and two sinks with this room.
+const LOAD_FAILS: Failing = Failing {
+    store: Some(0),
+    ..NONE_FAILS
+};
+
+const SAVE_FAILS: Failing = Failing {
+    store: Some(1),
+    ..NONE_FAILS
+};
+
+const OUTPUT_FAILS: Failing = Failing {
+    write: Some(0),
+    ..NONE_FAILS
+};
+
+const REPORT_FAILS: Failing = Failing {
+    report: Some(0),
+    ..NONE_FAILS
+};
+
+// A command, what it is given from outside beside the bytes of `file`, and what it has to do.
+#[derive(Clone, Copy)]
+struct Case {
+    // parted by one blank each
+    words: &'static str,
+    input: &'static str,
+    // what stands under `new` and under `dump` before, where there are such files
+    old: Option<&'static str>,
+    failing: Failing,
+    // how many bytes the output takes, and the report
+    room: usize,
+    answer: Option<Status>,
+    number: u8,
+    report: &'static str,
+    output: &'static [u8],
+    // the bytes of the input that are left
+    rest: &'static str,
+    // the name whose file is not as it was: `file`, `new` or `dump`
+    changed: &'static str,
+}
+
+// A run that ends with code 0, and neither reads nor writes.
+const RUN: Case = Case {
+    words: "run file 1",
+    input: "in",
+    old: None,
+    failing: NONE_FAILS,
+    room: 200,
+    answer: None,
+    number: 0,
+    report: "",
+    output: &[],
+    rest: "in",
+    changed: "",
+};
+
+static PLAIN_RUN: Case = Case {
+    words: "run file 1",
+    ..RUN
+};
+
+// A store with `file`, an input that gives a byte in each call, and two sinks.
 #[derive(Drop)]
 struct Outside {
     store: MemStore,
@@ -242,380 +195,171 @@ fn list_of(alloc: Global, number: Option<u64>) -> Result<Vec<u64>, AllocError> {
     Ok(list)
 }
 
-fn prepared(
-    alloc: Global,
-    file: &[u8],
-    input: &str,
-    room: usize,
-    failing: Failing,
-) -> Result<Outside, AllocError> {
-    let mut store = MemStore::new(alloc, list_of(alloc, failing.load)?);
+fn store_of(alloc: Global, file: &[u8], case: &Case) -> Result<MemStore, AllocError> {
+    let mut store = MemStore::new(alloc, list_of(alloc, case.failing.store)?);
     store.put("file", file)?;
-    let input = Vec::from_slice(alloc, input.as_bytes())?;
+    if let Some(old) = case.old {
+        store.put("new", old.as_bytes())?;
+        store.put("dump", old.as_bytes())?;
+    }
+    Ok(store)
+}
+
+fn source_of(alloc: Global, case: &Case) -> Result<MemSource, AllocError> {
+    let input = Vec::from_slice(alloc, case.input.as_bytes())?;
+    let fails = list_of(alloc, case.failing.read)?;
+    Ok(MemSource::new(input, 1, fails))
+}
+
+fn sink_of(alloc: Global, room: usize, fails: Option<u64>) -> Result<MemSink, AllocError> {
+    let fails = list_of(alloc, fails)?;
+    MemSink::new(alloc, room, fails)
+}
+
+fn outside_of(alloc: Global, file: &[u8], case: &Case) -> Result<Outside, AllocError> {
+    let store = store_of(alloc, file, case)?;
+    let input = source_of(alloc, case)?;
+    let out = sink_of(alloc, case.room, case.failing.write)?;
+    let report = sink_of(alloc, case.room, case.failing.report)?;
     Ok(Outside {
         store,
-        input: MemSource::new(input, 1, list_of(alloc, failing.read)?),
-        out: MemSink::new(alloc, room, list_of(alloc, failing.write)?)?,
-        report: MemSink::new(alloc, room, list_of(alloc, failing.report)?)?,
+        input,
+        out,
+        report,
     })
 }
 
-// The answer to these words, which are parted by one blank each.
-fn answer_to<R: Threads + Sync>(
-    rt: &R,
-    alloc: Global,
-    words: &str,
-    outside: &mut Outside,
-) -> Result<Status, AllocError> {
+fn words_of(alloc: Global, words: &str) -> Result<Vec<String>, AllocError> {
     let mut list = Vec::new(alloc);
     if !words.is_empty() {
         for word in words.split(' ') {
             list.push(String::from_str(alloc, word)?)?;
         }
     }
-    Ok(command(
+    Ok(list)
+}
+
+// The answer to these words. It is here alone that a test meets the clauses of `command`.
+fn answer_to<R: Threads + Sync>(
+    rt: &R,
+    alloc: Global,
+    words: &[String],
+    outside: &mut Outside,
+) -> Status {
+    command(
         rt,
         alloc,
-        list.as_slice(),
+        words,
         &mut outside.store,
         &mut outside.input,
         &mut outside.out,
         &mut outside.report,
         &NoGate,
-    ))
+    )
 }
 
-#[test]
-fn program_runs_to_its_end(rt: HostRuntime) -> Result<(), Fail> {
-    let file = program(rt.alloc(), &HELLO, "hello\n")?;
-    assert!(rt; file.len() == 162);
-    let mut at = prepared(rt.alloc(), file.as_slice(), "in", 200, NONE_FAILS)?;
-    let status = answer_to(&rt, rt.alloc(), "run file 1", &mut at)?;
-    assert!(rt; status == Status::Exited(0));
-    assert!(rt; status.exit_number() == 0);
-    assert!(rt; at.out.bytes() == b"hello\n".as_slice());
-    assert!(rt; at.report.bytes() == b"hart 0 instructions 9\nsteps 9\nexit 0\n".as_slice());
-    assert!(rt; at.input.rest() == b"in".as_slice());
-    Ok(())
-}
-
-#[test]
-fn endings_are_reported(rt: HostRuntime) -> Result<(), Fail> {
-    for Ending {
-        code,
-        report,
-        number,
-    } in ENDINGS {
-        let file = program(rt.alloc(), code, "")?;
-        let mut at = prepared(rt.alloc(), file.as_slice(), "in", 200, NONE_FAILS)?;
-        let status = answer_to(&rt, rt.alloc(), "run file 1", &mut at)?;
-        assert!(rt; at.report.bytes() == report.as_bytes(), "not: {report}");
-        assert!(rt; status.exit_number() == number, "number at {report}");
-        assert!(rt; at.out.bytes().is_empty(), "output at {report}");
-        assert!(rt; at.input.rest() == b"in".as_slice(), "input at {report}");
-    }
-    Ok(())
-}
-
-// Nothing is loaded, read or written: the first call of each would fail.
-#[test]
-fn other_words_are_no_command(rt: HostRuntime) -> Result<(), Fail> {
-    let file = program(rt.alloc(), &ECHO, "")?;
-    let failing = Failing {
-        load: Some(0),
-        read: Some(0),
-        write: Some(0),
-        report: None,
-    };
-    for words in [
-        "",
-        "run",
-        "run file",
-        "run file 0",
-        "run file 2",
-        "run file 65",
-        "run file 01",
-        "run file 1x",
-        "run file +1",
-        "run file 1 0",
-        "run file 1 07",
-        "run file 1 +5",
-        "run file 1 -5",
-        "run file 1 1x",
-        "run file 1 ",
-        "run file 1 1099511627777",
-        "run file 1 18446744073709551621",
-        "run file 1 100000000000000000000000000000000000000000000000000",
-        "run file 1 0 dump",
-        "run file 2 5",
-        "run file 2 5 dump",
-        "run file 1 5 dump 1",
-        "Run file 1",
-        "runs file 1",
-        "walk file 1",
-        "rewrite",
-        "rewrite file",
-        "rewrite file new 1",
-        "Rewrite file new",
-        "list",
-        "list file other",
-        "file 1 run",
-    ] {
-        let mut at = prepared(rt.alloc(), file.as_slice(), "in", 200, failing)?;
-        let status = answer_to(&rt, rt.alloc(), words, &mut at)?;
-        assert!(rt; status == Status::Usage, "at {words}");
-        assert!(rt; status.exit_number() == 123, "at {words}");
-        assert!(rt; at.report.bytes() == USAGE.as_bytes(), "report at {words}");
-        assert!(rt; at.out.bytes().is_empty(), "output at {words}");
-        assert!(rt; at.input.rest() == b"in".as_slice(), "input at {words}");
-    }
-    Ok(())
-}
-
-#[test]
-fn missing_file_is_a_fault_of_the_store(rt: HostRuntime) -> Result<(), Fail> {
-    let mut at = prepared(rt.alloc(), b"", "in", 200, NONE_FAILS)?;
-    let status = answer_to(&rt, rt.alloc(), "run files 1", &mut at)?;
-    assert!(rt; status == Status::StoreFault);
-    assert!(rt; status.exit_number() == 125);
-    assert!(rt; at.report.bytes() == b"store-fault\n".as_slice());
-    assert!(rt; at.out.bytes().is_empty());
-    assert!(rt; at.input.rest() == b"in".as_slice());
-    Ok(())
-}
-
-// The echo reads its five bytes one by one and then meets the end, and writes them at once.
-#[test]
-fn faults_of_the_outside_are_answered(rt: HostRuntime) -> Result<(), Fail> {
-    let file = program(rt.alloc(), &ECHO, "")?;
-    let ended = "hart 0 instructions 12\nsteps 12\nexit 0\n";
-    let load = Failing {
-        load: Some(0),
-        ..NONE_FAILS
-    };
-    let read = |number| Failing {
-        read: Some(number),
-        ..NONE_FAILS
-    };
-    let write = Failing {
-        write: Some(0),
-        ..NONE_FAILS
-    };
-    let report = Failing {
-        report: Some(0),
-        ..NONE_FAILS
-    };
-    for (failing, room, out, report, number) in [
-        (NONE_FAILS, 200, "hello", ended, 0),
-        (load, 200, "", "store-fault\n", 125),
-        (read(0), 200, "", "read-fault\n", 126),
-        (read(1), 200, "", "read-fault\n", 126),
-        (read(4), 200, "", "read-fault\n", 126),
-        (read(5), 200, "", "read-fault\n", 126),
-        (read(6), 200, "hello", ended, 0),
-        (write, 200, "", "", 127),
-        (report, 200, "hello", "", 127),
-        // Sinks that are full.
-        (NONE_FAILS, 3, "hel", "", 127),
-        (NONE_FAILS, 10, "hello", "hart 0 ins", 127),
-    ] {
-        let mut at = prepared(rt.alloc(), file.as_slice(), "hello", room, failing)?;
-        let status = answer_to(&rt, rt.alloc(), "run file 1", &mut at)?;
-        assert!(rt; at.report.bytes() == report.as_bytes(), "not: {report}");
-        assert!(rt; at.out.bytes() == out.as_bytes(), "output at {number}");
-        assert!(rt; status.exit_number() == number, "number at {number}");
-    }
-    Ok(())
-}
-
-#[test]
-fn fuel_ends_a_run(rt: HostRuntime) -> Result<(), Fail> {
-    let file = program(rt.alloc(), &HELLO, "hello\n")?;
-    let ended = "hart 0 instructions 9\nsteps 9\nexit 0\n";
-    for (fuel, status, out, text) in [
-        (0, Status::Spent, "", "spent\n"),
-        (5, Status::Spent, "", "spent\n"),
-        (6, Status::Spent, "hello\n", "spent\n"),
-        (8, Status::Spent, "hello\n", "spent\n"),
-        (9, Status::Exited(0), "hello\n", ended),
-        (10, Status::Exited(0), "hello\n", ended),
-    ] {
-        let mut at = prepared(rt.alloc(), file.as_slice(), "", 200, NONE_FAILS)?;
-        let reply = run_file(
-            rt.alloc(),
-            "file",
-            fuel,
-            None,
-            &mut at.store,
-            &mut at.input,
-            &mut at.out,
-        );
-        assert!(rt; reply.status == status, "fuel {fuel}");
-        assert!(rt; reply.text.as_str() == text, "text after {fuel}");
-        assert!(rt; at.out.bytes() == out.as_bytes(), "output after {fuel}");
-    }
-    Ok(())
-}
-
-#[test]
-fn answers_have_their_lines_and_numbers(rt: HostRuntime) -> Result<(), Fail> {
-    let (kind, pc, addr) = (
-        Fault::Load(MemFault::Denied),
-        0xFEDC_BA98_7654_3210,
-        u64::MAX,
-    );
-    let denied =
-        "hart 0 instructions 18446744073709551615\nsteps 18446744073709551615\nfault load-denied pc 0xfedcba9876543210 addr 0xffffffffffffffff\n";
-    let limit = 67_108_864;
-    let made = Counts::Image {
-        entries: u32::MAX,
-        words: 717,
-    };
-    for (status, counts, text, number) in [
-        (Status::Spent, Counts::Steps(7), "spent\n", 121),
-        (Status::OutOfMemory, NO_COUNTS, "out-of-memory\n", 128),
-        (Status::WriteFault, NO_COUNTS, "", 127),
-        (
-            Status::Faulted { kind, pc, addr },
-            Counts::Steps(u64::MAX),
-            denied,
-            120,
-        ),
-        (
-            Status::Refused(Reason::LoadTooLong { limit }),
-            NO_COUNTS,
-            "refused load-too-long 67108864\n",
-            124,
-        ),
-        (
-            Status::Done,
-            made,
-            "rewritten entries 4294967295 words 717\n",
-            0,
-        ),
-    ] {
-        let report = report_text(rt.alloc(), &status, &counts)?;
-        assert!(rt; report.as_str() == text, "not: {text}");
-        assert!(rt; status.exit_number() == number, "at {text}");
-    }
-    Ok(())
-}
-
-#[test]
-fn rewritten_file_runs_as_its_original(rt: HostRuntime) -> Result<(), Fail> {
-    let file = program(rt.alloc(), &EXIT, "")?;
-    assert!(rt; file.len() == 128);
-    let mut at = prepared(rt.alloc(), file.as_slice(), "in", 200, NONE_FAILS)?;
-    let status = answer_to(&rt, rt.alloc(), "rewrite file new", &mut at)?;
-    assert!(rt; status == Status::Done);
-    assert!(rt; status.exit_number() == 0);
-    assert!(rt; at.report.bytes() == b"rewritten entries 0 words 0\n".as_slice());
-    let image = at.store.get("new").ok_or("nothing is saved")?;
-    assert!(rt; image.len() == 288);
-    assert!(rt; at.store.get("file") == Some(file.as_slice()));
-    let status = answer_to(&rt, rt.alloc(), "run new 1", &mut at)?;
-    assert!(rt; status == Status::Exited(0));
+// What stands under this name is what stood there at the start, but for the name of which the case says
+// that it is changed.
+fn check_kept<R: Abort>(rt: &R, store: &MemStore, name: &str, old: Option<&[u8]>, case: &Case) {
+    let is_kept = store.get(name) == old;
     assert!(rt;
-        at.report.bytes()
-            == b"rewritten entries 0 words 0\nhart 0 instructions 2\nsteps 2\nexit 0\n".as_slice()
+        is_kept == (name != case.changed),
+        "{name}, by {}",
+        case.words
     );
-    let status = answer_to(&rt, rt.alloc(), "rewrite new file", &mut at)?;
-    assert!(rt; status == Status::Refused(Reason::Marked { index: 1 }));
-    assert!(rt; at.store.get("file") == Some(file.as_slice()));
-    assert!(rt; at.out.bytes().is_empty());
-    assert!(rt; at.input.rest() == b"in".as_slice());
+}
+
+fn check_files<R: Abort>(rt: &R, store: &MemStore, file: &[u8], case: &Case) {
+    let old = match case.old {
+        Some(old) => Some(old.as_bytes()),
+        None => None,
+    };
+    check_kept(rt, store, "file", Some(file), case);
+    check_kept(rt, store, "new", old, case);
+    check_kept(rt, store, "dump", old, case);
+    check_kept(rt, store, "other", None, case);
+}
+
+fn check_bytes<R: Abort>(rt: &R, found: &[u8], wanted: &[u8], what: &str, words: &str) {
+    assert!(rt; found == wanted, "{what} of {words}");
+}
+
+// Gives the command, and looks at all that it has done. `file` had these bytes at the start.
+fn give<R: Threads + Sync + Abort>(
+    rt: &R,
+    alloc: Global,
+    file: &[u8],
+    case: &Case,
+    at: &mut Outside,
+) -> Result<(), AllocError> {
+    let list = words_of(alloc, case.words)?;
+    let status = answer_to(rt, alloc, list.as_slice(), at);
+    let words = case.words;
+    if let Some(answer) = case.answer {
+        assert!(rt; status == answer, "answer to {words}");
+    }
+    assert!(rt; status.exit_number() == case.number, "number of {words}");
+    check_bytes(
+        rt,
+        at.report.bytes(),
+        case.report.as_bytes(),
+        "report",
+        words,
+    );
+    check_bytes(rt, at.out.bytes(), case.output, "output", words);
+    check_bytes(rt, at.input.rest(), case.rest.as_bytes(), "input", words);
+    check_files(rt, &at.store, file, case);
     Ok(())
 }
 
-// The image of `EXIT`, with one byte in another's place or at its end, or without its last byte.
-#[test]
-fn other_images_are_refused(rt: HostRuntime) -> Result<(), Fail> {
-    let file = program(rt.alloc(), &EXIT, "")?;
-    let mut at = prepared(rt.alloc(), file.as_slice(), "", 200, NONE_FAILS)?;
-    let status = answer_to(&rt, rt.alloc(), "rewrite file file", &mut at)?;
-    assert!(rt; status == Status::Done);
-    let image = at.store.get("file").ok_or("nothing is saved")?;
-    for (place, byte, report) in [
-        (188, Some(3), "refused altered 188\n"),
-        (244, Some(3), "refused bad-mark\n"),
-        (287, None, "refused bad-mark\n"),
-        (288, Some(0), "refused altered 288\n"),
-    ] {
-        let mut changed = Vec::from_slice(rt.alloc(), image)?;
-        match byte {
-            None => changed.truncate(place),
-            Some(byte) => match changed.get_mut(place) {
-                Some(old) => *old = byte,
-                None => changed.push(byte)?,
-            },
-        }
-        let mut at = prepared(rt.alloc(), changed.as_slice(), "in", 200, NONE_FAILS)?;
-        let status = answer_to(&rt, rt.alloc(), "run file 1", &mut at)?;
-        assert!(rt; at.report.bytes() == report.as_bytes(), "not: {report}");
-        assert!(rt; status.exit_number() == 124, "number at {report}");
-        assert!(rt; at.input.rest() == b"in".as_slice(), "input at {report}");
+// Gives commands in turn, to the store, the input and the sinks that the first case is given.
+fn give_in_turn<R: Threads + Sync + Abort>(
+    rt: &R,
+    alloc: Global,
+    file: &[u8],
+    cases: &[Case],
+) -> Result<Outside, AllocError> {
+    let first = cases.first().unwrap_or(&PLAIN_RUN);
+    let mut at = outside_of(alloc, file, first)?;
+    for case in cases {
+        give(rt, alloc, file, case, &mut at)?;
+    }
+    Ok(at)
+}
+
+// The case over `file` with these bytes.
+fn check<R: Threads + Sync + Abort>(
+    rt: &R,
+    alloc: Global,
+    file: &[u8],
+    case: &Case,
+) -> Result<(), AllocError> {
+    let mut at = outside_of(alloc, file, case)?;
+    give(rt, alloc, file, case, &mut at)
+}
+
+fn check_all<R: Threads + Sync + Abort>(
+    rt: &R,
+    alloc: Global,
+    file: &[u8],
+    cases: &[Case],
+) -> Result<(), AllocError> {
+    for case in cases {
+        check(rt, alloc, file, case)?;
     }
     Ok(())
 }
 
-// `file` stays whatever happens, and where nothing is saved there is no `new`.
-#[test]
-fn rewriting_is_answered_where_the_outside_fails(rt: HostRuntime) -> Result<(), Fail> {
-    let file = program(rt.alloc(), &EXIT, "")?;
-    let store = |number| Failing {
-        load: Some(number),
-        ..NONE_FAILS
+fn check_length<R: Abort>(rt: &R, bytes: &[u8], length: usize) {
+    assert!(rt; bytes.len() == length);
+}
+
+// A file of so many bytes stands under this name, of which the first are these.
+fn check_file<R: Abort>(rt: &R, store: &MemStore, name: &str, length: usize, first: &[u8]) {
+    let Some(bytes) = store.get(name) else {
+        assert!(rt; false, "nothing is saved as {name}");
+        return;
     };
-    let report = Failing {
-        report: Some(0),
-        ..NONE_FAILS
-    };
-    for (words, failing, room, report, number, saved) in [
-        (
-            "rewrite file new",
-            store(0),
-            200,
-            "store-fault\n",
-            125,
-            false,
-        ),
-        (
-            "rewrite file new",
-            store(1),
-            200,
-            "store-fault\n",
-            125,
-            false,
-        ),
-        (
-            "rewrite files new",
-            NONE_FAILS,
-            200,
-            "store-fault\n",
-            125,
-            false,
-        ),
-        ("rewrite file new", report, 200, "", 127, true),
-        ("rewrite file new", NONE_FAILS, 9, "rewritten", 127, true),
-        (
-            "rewrite file new",
-            store(2),
-            200,
-            "rewritten entries 0 words 0\n",
-            0,
-            true,
-        ),
-    ] {
-        let mut at = prepared(rt.alloc(), file.as_slice(), "in", room, failing)?;
-        let status = answer_to(&rt, rt.alloc(), words, &mut at)?;
-        assert!(rt; at.report.bytes() == report.as_bytes(), "not: {report}");
-        assert!(rt; status.exit_number() == number, "number at {report}");
-        assert!(rt; at.store.get("new").is_some() == saved, "saved at {report}");
-        assert!(rt;
-            at.store.get("file") == Some(file.as_slice()),
-            "file at {report}"
-        );
-        assert!(rt; at.input.rest() == b"in".as_slice(), "input at {report}");
-    }
-    Ok(())
+    assert!(rt; bytes.len() == length, "length of {name}");
+    assert!(rt; bytes.starts_with(first), "beginning of {name}");
 }

@@ -1,8 +1,11 @@
-use super::{ECHO, Failing, HELLO, NONE_FAILS, answer_to, prepared, program};
+use super::{
+    Case, ECHO, Failing, HELLO, HELLO_REPORT, LOAD_FAILS, NONE_FAILS, OUTPUT_FAILS, REPORT_FAILS,
+    RUN, SAVE_FAILS, check_all, check_file, give, outside_of, program,
+};
 use crate::status::Status;
+use outside_ports::MemStore;
 use std::alloc::{AllocError, Global};
 use std::process::Abort;
-use std::test::Fail;
 use std::thread::Threads;
 
 // Writes the four bytes behind it in two calls, and ends with code 0.
@@ -30,245 +33,281 @@ static ENDS_OF_MEMORY: [u32; 5] = [
     0x0010_0073, // ebreak
 ];
 
-// The store's first call is to load the file, and its second to save the memory.
-const LOAD_FAILS: Failing = Failing {
-    load: Some(0),
-    ..NONE_FAILS
+// A run of `HELLO` whose memory is saved.
+const DUMP: Case = Case {
+    words: "run file 1 9 dump",
+    report: HELLO_REPORT,
+    output: b"hello\n",
+    changed: "dump",
+    ..RUN
 };
 
-const SAVE_FAILS: Failing = Failing {
-    load: Some(1),
-    ..NONE_FAILS
+// One that is given fuel, and saves nothing.
+const FUELED: Case = Case {
+    words: "run file 1 9",
+    changed: "",
+    ..DUMP
 };
 
-const OUTPUT_FAILS: Failing = Failing {
-    write: Some(0),
-    ..NONE_FAILS
+const NO_DUMP: Case = Case {
+    report: "store-fault\n",
+    number: 125,
+    changed: "",
+    ..DUMP
 };
 
-const REPORT_FAILS: Failing = Failing {
-    report: Some(0),
-    ..NONE_FAILS
-};
-
-// What a run does that is given fuel, and a name for its memory.
-#[derive(Clone, Copy)]
-struct Dumping {
-    words: &'static str,
-    failing: Failing,
-    out: &'static str,
-    report: &'static str,
-    number: u8,
-    saved: bool,
-}
-
-const HELLO_REPORT: &str = "hart 0 instructions 9\nsteps 9\nexit 0\n";
-
-static DUMPS_OF_HELLO: [Dumping; 9] = [
-    Dumping {
-        words: "run file 1 9",
-        failing: NONE_FAILS,
-        out: "hello\n",
-        report: HELLO_REPORT,
-        number: 0,
-        saved: false,
-    },
-    Dumping {
+static DUMPS_OF_HELLO: [Case; 14] = [
+    FUELED,
+    Case {
         words: "run file 1 1099511627776",
-        failing: NONE_FAILS,
-        out: "hello\n",
-        report: HELLO_REPORT,
-        number: 0,
-        saved: false,
+        ..FUELED
     },
-    Dumping {
-        words: "run file 1 9 dump",
-        failing: NONE_FAILS,
-        out: "hello\n",
-        report: HELLO_REPORT,
-        number: 0,
-        saved: true,
+    DUMP,
+    Case {
+        old: Some("old"),
+        ..DUMP
     },
-    Dumping {
+    Case {
         words: "run file 1 8 dump",
-        failing: NONE_FAILS,
-        out: "hello\n",
         report: "spent\n",
         number: 121,
-        saved: false,
+        ..NO_DUMP
     },
-    Dumping {
+    Case {
         words: "run files 1 9 dump",
-        failing: NONE_FAILS,
-        out: "",
-        report: "store-fault\n",
-        number: 125,
-        saved: false,
+        output: &[],
+        ..NO_DUMP
     },
-    Dumping {
-        words: "run file 1 9 dump",
+    Case {
         failing: LOAD_FAILS,
-        out: "",
-        report: "store-fault\n",
-        number: 125,
-        saved: false,
+        output: &[],
+        ..NO_DUMP
     },
-    Dumping {
-        words: "run file 1 9 dump",
+    Case {
         failing: SAVE_FAILS,
-        out: "hello\n",
-        report: "store-fault\n",
-        number: 125,
-        saved: false,
+        ..NO_DUMP
     },
-    Dumping {
-        words: "run file 1 9 dump",
+    Case {
+        failing: SAVE_FAILS,
+        old: Some("old"),
+        ..NO_DUMP
+    },
+    Case {
+        words: "run file 1 9 file",
+        failing: SAVE_FAILS,
+        ..NO_DUMP
+    },
+    Case {
+        words: "run file 1 8 dump",
+        old: Some("old"),
+        report: "spent\n",
+        number: 121,
+        ..NO_DUMP
+    },
+    Case {
         failing: OUTPUT_FAILS,
-        out: "",
+        output: &[],
         report: "",
         number: 127,
-        saved: false,
+        ..NO_DUMP
     },
-    Dumping {
-        words: "run file 1 9 dump",
-        failing: REPORT_FAILS,
-        out: "hello\n",
+    Case {
+        failing: OUTPUT_FAILS,
+        old: Some("old"),
+        output: &[],
         report: "",
         number: 127,
-        saved: true,
+        ..NO_DUMP
+    },
+    Case {
+        failing: REPORT_FAILS,
+        report: "",
+        number: 127,
+        ..DUMP
     },
 ];
 
-// One case of a run, of a file with these bytes. The file stays.
-fn check_dumping<R: Threads + Sync + Abort>(
+static DUMPS_OF_TWO_WRITES: [Case; 3] = [
+    Case {
+        words: "run file 1 12 dump",
+        report: "hart 0 instructions 12\nsteps 12\nexit 0\n",
+        output: b"abcd",
+        ..DUMP
+    },
+    Case {
+        words: "run file 1 12 dump",
+        failing: OUTPUT_FAILS,
+        report: "",
+        number: 127,
+        output: &[],
+        ..NO_DUMP
+    },
+    Case {
+        words: "run file 1 12 dump",
+        failing: Failing {
+            write: Some(1),
+            ..NONE_FAILS
+        },
+        report: "",
+        number: 127,
+        output: b"ab",
+        ..NO_DUMP
+    },
+];
+
+#[test]
+fn dumps_are_saved_at_endings_alone(rt: HostRuntime) -> Result<(), AllocError> {
+    let file = program(rt.alloc(), &HELLO, "hello\n")?;
+    check_all(&rt, rt.alloc(), file.as_slice(), &DUMPS_OF_HELLO)?;
+    let two = program(rt.alloc(), &TWO_WRITES, "abcd")?;
+    check_all(&rt, rt.alloc(), two.as_slice(), &DUMPS_OF_TWO_WRITES)
+}
+
+// The file under this name has these bytes in these places.
+fn check_places<R: Abort>(rt: &R, store: &MemStore, name: &str, bytes: &[(usize, u8)]) {
+    for (place, byte) in bytes {
+        let found = match store.get(name) {
+            Some(file) => file.get(*place).copied(),
+            None => None,
+        };
+        assert!(rt; found == Some(*byte), "at {place}");
+    }
+}
+
+// The case saves a memory of so many bytes under a name, which begins as the file, with these bytes in these
+// places.
+fn check_memory<R: Threads + Sync + Abort>(
     rt: &R,
     alloc: Global,
     file: &[u8],
-    case: &Dumping,
+    case: &Case,
+    length: usize,
+    bytes: &[(usize, u8)],
 ) -> Result<(), AllocError> {
-    let mut at = prepared(alloc, file, "in", 200, case.failing)?;
-    let status = answer_to(rt, alloc, case.words, &mut at)?;
-    assert!(rt; at.report.bytes() == case.report.as_bytes());
-    assert!(rt; at.out.bytes() == case.out.as_bytes());
-    assert!(rt; status.exit_number() == case.number);
-    assert!(rt; at.store.get("dump").is_some() == case.saved);
-    assert!(rt; at.store.get("file") == Some(file));
+    let mut at = outside_of(alloc, file, case)?;
+    give(rt, alloc, file, case, &mut at)?;
+    check_file(rt, &at.store, case.changed, length, file);
+    check_places(rt, &at.store, case.changed, bytes);
     Ok(())
 }
 
-#[test]
-fn dumps_are_saved_at_endings_alone(rt: HostRuntime) -> Result<(), Fail> {
-    let file = program(rt.alloc(), &HELLO, "hello\n")?;
-    for case in &DUMPS_OF_HELLO {
-        check_dumping(&rt, rt.alloc(), file.as_slice(), case)?;
-    }
-    let two = program(rt.alloc(), &TWO_WRITES, "abcd")?;
-    for (failing, out, report, number, saved) in [
-        (
-            None,
-            "abcd",
-            "hart 0 instructions 12\nsteps 12\nexit 0\n",
-            0,
-            true,
-        ),
-        (Some(0), "", "", 127, false),
-        (Some(1), "ab", "", 127, false),
-    ] {
-        let failing = Failing {
-            write: failing,
-            ..NONE_FAILS
-        };
-        let case = Dumping {
-            words: "run file 1 12 dump",
-            failing,
-            out,
-            report,
-            number,
-            saved,
-        };
-        check_dumping(&rt, rt.alloc(), two.as_slice(), &case)?;
-    }
-    Ok(())
-}
+const DUMP_OF_HELLO: Case = Case {
+    answer: Some(Status::Exited(0)),
+    ..DUMP
+};
+
+static ZEROS: [(usize, u8); 4] = [(162, 0), (167, 0), (168, 0), (25_165_991, 0)];
 
 // 168 bytes of the code's area, 16,777,216 of the heap and 8,388,608 of the stack.
 #[test]
-fn dump_has_all_areas(rt: HostRuntime) -> Result<(), Fail> {
+fn dump_has_all_areas(rt: HostRuntime) -> Result<(), AllocError> {
     let file = program(rt.alloc(), &HELLO, "hello\n")?;
-    let mut at = prepared(rt.alloc(), file.as_slice(), "", 200, NONE_FAILS)?;
-    let status = answer_to(&rt, rt.alloc(), "run file 1 9 dump", &mut at)?;
-    assert!(rt; status == Status::Exited(0));
-    let dump = at.store.get("dump").ok_or("nothing is saved")?;
-    assert!(rt; dump.len() == 25_165_992);
-    assert!(rt; dump.starts_with(file.as_slice()));
-    for place in [162, 167, 168, 25_165_991] {
-        assert!(rt; dump.get(place).copied() == Some(0), "at {place}");
-    }
-    Ok(())
+    check_memory(
+        &rt,
+        rt.alloc(),
+        file.as_slice(),
+        &DUMP_OF_HELLO,
+        25_165_992,
+        &ZEROS,
+    )
 }
+
+static DUMP_OF_A_FAULT: Case = Case {
+    words: "run file 1 99 dump",
+    report: "hart 0 instructions 5\nsteps 5\nfault break pc 0x0000000000010088 addr 0x0000000000010088\n",
+    number: 120,
+    output: &[],
+    ..DUMP
+};
+
+static BYTES_IN_ORDER: [(usize, u8); 5] = [
+    (143, 0),
+    (144, 171),
+    (145, 0),
+    (25_165_966, 0),
+    (25_165_967, 171),
+];
 
 // 144 bytes of the code's area, and then the heap and the stack.
 #[test]
-fn dump_of_a_fault_is_in_address_order(rt: HostRuntime) -> Result<(), Fail> {
+fn dump_of_a_fault_is_in_address_order(rt: HostRuntime) -> Result<(), AllocError> {
     let file = program(rt.alloc(), &ENDS_OF_MEMORY, "")?;
-    let mut at = prepared(rt.alloc(), file.as_slice(), "", 200, NONE_FAILS)?;
-    let status = answer_to(&rt, rt.alloc(), "run file 1 99 dump", &mut at)?;
-    assert!(rt; status.exit_number() == 120);
-    assert!(rt;
-        at.report.bytes()
-            == b"hart 0 instructions 5\nsteps 5\nfault break pc 0x0000000000010088 addr 0x0000000000010088\n".as_slice()
-    );
-    let dump = at.store.get("dump").ok_or("nothing is saved")?;
-    assert!(rt; dump.len() == 25_165_968);
-    assert!(rt; dump.starts_with(file.as_slice()));
-    for (place, byte) in [
-        (143, 0),
-        (144, 171),
-        (145, 0),
-        (25_165_966, 0),
-        (25_165_967, 171),
-    ] {
-        assert!(rt; dump.get(place).copied() == Some(byte), "at {place}");
-    }
-    Ok(())
+    check_memory(
+        &rt,
+        rt.alloc(),
+        file.as_slice(),
+        &DUMP_OF_A_FAULT,
+        25_165_968,
+        &BYTES_IN_ORDER,
+    )
 }
+
+const FAILED_READING: Case = Case {
+    words: "run file 1 99 dump",
+    failing: Failing {
+        read: Some(2),
+        ..NONE_FAILS
+    },
+    report: "read-fault\n",
+    number: 126,
+    output: &[],
+    rest: "",
+    ..NO_DUMP
+};
+
+static RUNS_OF_ECHO: [Case; 3] = [
+    FAILED_READING,
+    Case {
+        old: Some("old"),
+        ..FAILED_READING
+    },
+    Case {
+        input: "more",
+        rest: "re",
+        ..FAILED_READING
+    },
+];
+
+static RUNS_OF_NO_FILE: [Case; 2] = [
+    Case {
+        report: "refused not-elf\n",
+        number: 124,
+        rest: "in",
+        ..FAILED_READING
+    },
+    Case {
+        old: Some("old"),
+        report: "refused not-elf\n",
+        number: 124,
+        rest: "in",
+        ..FAILED_READING
+    },
+];
 
 // A reading that fails, and a file that is refused: nothing is saved.
 #[test]
-fn other_answers_save_no_dump(rt: HostRuntime) -> Result<(), Fail> {
+fn other_answers_save_no_dump(rt: HostRuntime) -> Result<(), AllocError> {
     let echo = program(rt.alloc(), &ECHO, "")?;
-    let failing = Failing {
-        read: Some(2),
-        ..NONE_FAILS
-    };
-    for (file, report, number) in [
-        (echo.as_slice(), "read-fault\n", 126),
-        (b"no file".as_slice(), "refused not-elf\n", 124),
-    ] {
-        let case = Dumping {
-            words: "run file 1 99 dump",
-            failing,
-            out: "",
-            report,
-            number,
-            saved: false,
-        };
-        check_dumping(&rt, rt.alloc(), file, &case)?;
-    }
-    Ok(())
+    check_all(&rt, rt.alloc(), echo.as_slice(), &RUNS_OF_ECHO)?;
+    check_all(&rt, rt.alloc(), b"no file", &RUNS_OF_NO_FILE)
 }
+
+static DUMP_ONTO_THE_FILE: Case = Case {
+    words: "run file 1 9 file",
+    changed: "file",
+    ..DUMP_OF_HELLO
+};
 
 // The file is replaced by the memory of its run: it was loaded before.
 #[test]
-fn dump_may_have_the_name_of_the_file(rt: HostRuntime) -> Result<(), Fail> {
+fn dump_may_have_the_name_of_the_file(rt: HostRuntime) -> Result<(), AllocError> {
     let file = program(rt.alloc(), &HELLO, "hello\n")?;
-    let mut at = prepared(rt.alloc(), file.as_slice(), "in", 200, NONE_FAILS)?;
-    let status = answer_to(&rt, rt.alloc(), "run file 1 9 file", &mut at)?;
-    assert!(rt; status == Status::Exited(0));
-    assert!(rt; at.report.bytes() == HELLO_REPORT.as_bytes());
-    assert!(rt; at.out.bytes() == b"hello\n".as_slice());
-    let dump = at.store.get("file").ok_or("nothing is saved")?;
-    assert!(rt; dump.len() == 25_165_992);
-    assert!(rt; dump.starts_with(file.as_slice()));
-    Ok(())
+    check_memory(
+        &rt,
+        rt.alloc(),
+        file.as_slice(),
+        &DUMP_ONTO_THE_FILE,
+        25_165_992,
+        &[],
+    )
 }
