@@ -202,6 +202,19 @@ run 'head -c 162 dump | cmp -s - hello && head -c 25165830 /dev/zero | cmp -s - 
 case_is 'the file, and zeros behind it' 0 '' ''
 run 'rewrite_cli run hello 1 9 missing/dump >out 2>report </dev/null'
 case_is 'a memory that is saved to a missing folder' 125 "$hello" store-fault
+run 'mkdir taken; rewrite_cli run hello 1 9 taken >out 2>report </dev/null' \
+    '[ -d taken ] && [ -z "$(ls -A taken)" ]'
+case_is 'a memory that is saved to a folder' 125 "$hello" store-fault
+printf old >"$folder/kept"
+run "trap '' XFSZ; ulimit -f 2; rewrite_cli run hello 1 9 kept >out 2>report </dev/null" \
+    '[ "$(cat kept)" = old ]'
+case_is 'a memory on a full disk: the old file stays whole' 125 "$hello" store-fault
+run 'rewrite_cli run hello 1 8 kept >out 2>report </dev/null' \
+    '[ "$(cat kept)" = old ]'
+case_is 'as many instructions as do not end: the old file stays' 121 "$hello" spent
+run 'rewrite_cli run hello 1 9 kept >out 2>report </dev/null' \
+    'cmp -s dump kept'
+case_is 'a memory that is saved over an old file' 0 "$hello" "$counts"
 run 'rewrite_cli run hello 1 9 /dev/full >out 2>report </dev/null' \
     '[ -c /dev/full ]'
 case_is 'a memory that is saved to a full device' 125 "$hello" store-fault
@@ -223,6 +236,9 @@ run 'rewrite_cli rewrite new newer >out 2>report </dev/null' \
 case_is 'a refused file: nothing is saved' 124 '' 'refused marked 1'
 run 'rewrite_cli rewrite hello missing/new >out 2>report </dev/null'
 case_is 'a folder to save to that is missing' 125 '' store-fault
+run 'rewrite_cli rewrite hello taken >out 2>report </dev/null' \
+    '[ -d taken ] && [ -z "$(ls -A taken)" ]'
+case_is 'a folder in place of a file to save to' 125 '' store-fault
 run 'cp hello same; chmod 750 same; rewrite_cli rewrite same same >out 2>report </dev/null' \
     'cmp -s new same && [ $(stat -c %a same) = 750 ]'
 case_is 'a file that is saved over itself keeps its mode' 0 '' 'rewritten entries 0 words 0'
@@ -240,6 +256,11 @@ cp "$folder/padded" "$folder/only"
 run "trap '' XFSZ; ulimit -f 2; rewrite_cli rewrite only only >out 2>report </dev/null" \
     'cmp -s padded only'
 case_is 'a full disk: the old file stays whole' 125 '' store-fault
+printf old >"$folder/made"
+run "trap '' XFSZ; ulimit -f 2; rewrite_cli rewrite padded made >out 2>report </dev/null" \
+    '[ "$(cat made)" = old ]'
+case_is 'a full disk: the old file of another name stays whole' 125 '' store-fault
+rm "$folder/made"
 run "trap '' XFSZ; ulimit -f 2; rewrite_cli rewrite padded made >out 2>report </dev/null" \
     '[ ! -e made ]'
 case_is 'a full disk: no file is left' 125 '' store-fault
@@ -252,6 +273,9 @@ as_user=()
 run "${as_user[*]} rewrite_cli rewrite hello locked/old >out 2>report </dev/null" \
     'cmp -s hello locked/old'
 case_is 'a folder that may not be written: the old file stays' 125 '' store-fault
+run "${as_user[*]} rewrite_cli run hello 1 9 locked/old >out 2>report </dev/null" \
+    'cmp -s hello locked/old'
+case_is 'a memory in a folder that may not be written: the old file stays' 125 "$hello" store-fault
 chmod 777 "$folder/locked"
 run "${as_user[*]} rewrite_cli rewrite hello locked/old >out 2>report </dev/null" \
     'cmp -s new locked/old && [ $(stat -c %a locked/old) = 666 ]'
