@@ -19,3 +19,9 @@ pub mod Passes
 pub mod Locations
 pub mod Independent
 pub mod Holds
+pub mod LoopCode
+pub mod Facts
+pub mod FactPass
+pub mod FormRows
+pub mod Equations
+pub mod Classes
