@@ -5,3 +5,9 @@ pub mod Tests
 pub mod Steps
 pub mod FromStarts
 pub mod SampleNest
+pub mod Shorts
+pub mod NestVisits
+pub mod Strides
+pub mod FormWords
+pub mod FactWords
+pub mod FactWalks

@@ -25,3 +25,5 @@ pub mod FactPass
 pub mod FormRows
 pub mod Equations
 pub mod Classes
+pub mod Executing
+pub mod FactLaws

@@ -3,12 +3,14 @@
 //! `specs/` has the definitions that all crates about loops cite: the reached words of an executable as a
 //! graph (`Code`, `Targets`, `Reaching`, `Graphs`, `Starts`), its loops (`Paths`, `Sets`, `Bodies`,
 //! `Instructions`, `Shape`, `Early`, `Listed`, `Loops`), what the levels of a loop promise (`Nests`,
-//! `LoopWords`), and the turns of a loop in a run (`Runs`, `Turns`, `Passes`, `Locations`, `Independent`,
-//! `Holds`). They speak of addresses, words and what these stand for, and of nothing of the code that finds
-//! them.
+//! `LoopWords`), the turns of a loop in a run (`Runs`, `Turns`, `Passes`, `Locations`, `Independent`,
+//! `Holds`), and what is known of the values at the words of a loop (`LoopCode`, `Facts`, `FactPass`,
+//! `FormRows`, `Equations`, `Classes`), with what the laws about it ask of a run (`Executing`, `FactLaws`).
+//! They speak of addresses, words and what these stand for, and of nothing of the code that finds them.
 #![tactic(auto)]
 
 pub mod graph;
+pub mod laws;
 pub mod shape;
 pub mod verdict;
 
