@@ -1,0 +1,4 @@
+pub mod Times
+pub mod Solutions
+pub mod Walks
+pub mod Runs

@@ -1,0 +1,61 @@
+-- When the forms at the words of a nest are true of a run.
+use Rattle.std.specs.Prelude.{ℕ, ◌≡◌, ◌<◌, true, List, Option, Some, ℤ}
+use Rattle.linear_forms.specs.Forms.{LinearForm, exact}
+use Rattle.loop_data.specs.declared.graph.Graph.{Graph}
+use Rattle.loop_data.specs.declared.shape.Level.{Level}
+use Rattle.loop_data.specs.Nests.{Nest, has, In, Among, nest_of, IsPass}
+use Rattle.loop_data.specs.LoopWords.{AreNest}
+use Rattle.loop_data.specs.Runs.{State, run, walk, goes_at}
+use Rattle.loop_data.specs.Turns.{turn}
+use Rattle.loop_data.specs.Locations.{no_cells}
+use Rattle.loop_data.specs.LoopCode.{LoopCode, code_of, any_writes, IsUnwritten}
+use Rattle.loop_data.specs.Independent.{Role, Keeps, Moves}
+use Rattle.loop_data.specs.Classes.{FactsOf, HasRole, HasInnerRole}
+use Rattle.loop_data.specs.FormRows.{duty}
+use Rattle.loop_data.specs.Equations.{AreForms, IsConfirmed}
+use Rattle.loop_data.specs.Holds.{entry_of, times, HoldsAt, FormsHold}
+use Rattle.loop_data.specs.Executing.{AreProgramWords, Executes, IsOf32Bits}
+
+-- the forms are a solution of the equations of a nest, by roles that its loops give the locations
+pub record AreSolved (N : Nest) (B : LoopCode) (roles : Level → ℕ → Role) (at : ℕ → ℕ → Option LinearForm) : Type 0 where
+  -- what a loop keeps it does not write
+  pub keeps : (l : Level) → Among N l → (r : ℕ) → roles l r ≡ Keeps → IsUnwritten B l r
+  -- what it moves on it writes on every pass
+  pub moves : (l : Level) → Among N l → (r : ℕ) (step : ℤ) → roles l r ≡ Moves step → (us : List ℕ) → IsPass N l us
+      → any_writes B us r ≡ true
+  -- the forms solve the equations
+  pub forms : AreForms N B roles at
+  -- and each write of an induction is its header's form and the step
+  pub confirmed : (l : Level) → Among N l → (r : ℕ) → IsConfirmed N B roles at l r
+
+-- up to visit n a run executes the words of the nest, and before it each value that an instruction on words
+-- of 32 bits owes is a number of 32 bits
+pub record MeetsDuties (N : Nest) (B : LoopCode) (at : ℕ → ℕ → Option LinearForm) (s : State) (n : ℕ) : Type 0 where
+  pub executes : Executes N B s n
+  pub duties : (m : ℕ) (f : LinearForm) → m < n → duty B (walk s m) (at (walk s m)) ≡ Some f
+      → IsOf32Bits (exact f (entry_of B.cells s) (times N s m))
+
+-- then the forms hold at visit n
+abbrev pub FormLaw : Type 0
+FormLaw = (G : Graph) (levels : List Level) (nest : AreNest G levels) → AreProgramWords G →
+    let N = nest_of G nest.root nest.inner in
+    let B = code_of G no_cells in
+    (roles : Level → ℕ → Role) (at : ℕ → ℕ → Option LinearForm) (s : State) (n : ℕ) → AreSolved N B roles at
+    → MeetsDuties N B at s n → HoldsAt N B.cells at s n
+
+-- and at each visit of a word of the nest in the first p turns, where that is so up to each of them
+abbrev pub TurnsLaw : Type 0
+TurnsLaw = (G : Graph) (levels : List Level) (nest : AreNest G levels) → AreProgramWords G →
+    let N = nest_of G nest.root nest.inner in
+    let B = code_of G no_cells in
+    (roles : Level → ℕ → Role) (at : ℕ → ℕ → Option LinearForm) (s : State) (p : ℕ) → AreSolved N B roles at
+    → ((n : ℕ) → turn N.root s n < p → goes_at (has N.root.body) (run s n).next ≡ true → MeetsDuties N B at s n)
+    → FormsHold N B.cells at s p
+
+-- roles that are the classes of the locations are such roles
+abbrev pub RoleLaw : Type 0
+RoleLaw = (N : Nest) (B : LoopCode) (V : FactsOf) (roles : Level → ℕ → Role) (at : ℕ → ℕ → Option LinearForm)
+    → ((r : ℕ) → HasRole N B V r (roles N.root r))
+    → ((l : Level) → In N.inner l → (r : ℕ) → HasInnerRole N B V l r (roles l r))
+    → AreForms N B roles at → ((l : Level) → Among N l → (r : ℕ) → IsConfirmed N B roles at l r)
+    → AreSolved N B roles at
