@@ -3,6 +3,14 @@ pub mod Rising
 pub mod Ways
 pub mod Tests
 pub mod Steps
+pub mod Searched
+pub mod FlowWords
+pub mod FlowRows
+pub mod FlowOrders
+pub mod FlowEdges
+pub mod ValueFills
+pub mod ValuePlaces
+pub mod FactUnique
 pub mod FromStarts
 pub mod SampleNest
 pub mod Shorts

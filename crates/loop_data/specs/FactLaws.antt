@@ -8,7 +8,7 @@ use Rattle.rv64_decode.specs.declared.outcome.Next.TheVariants.{At}
 use Rattle.linear_forms.specs.Forms.{Alike}
 use Rattle.loop_data.specs.declared.graph.Graph.{Graph}
 use Rattle.loop_data.specs.declared.shape.Level.{Level}
-use Rattle.loop_data.specs.Nests.{Nest, nest_of}
+use Rattle.loop_data.specs.Nests.{Nest, nest_of, IsNest, Among, Holds}
 use Rattle.loop_data.specs.LoopWords.{AreNest}
 use Rattle.loop_data.specs.Runs.{State, walk}
 use Rattle.loop_data.specs.Turns.{turn, IsArrival}
@@ -53,3 +53,8 @@ FactLaw = (G : Graph) (levels : List Level) (nest : AreNest G levels) → ArePro
 abbrev pub ArrivalLaw : Type 0
 ArrivalLaw = (l : Level) (s : State) (n : ℕ) → s.next ≡ At l.header
     → IsArrival l s (turn l s n) (arrival l s n) × (arrival l s n ≤ n)
+
+-- the equations of the pass over a loop have one solution
+abbrev pub OnePassLaw : Type 0
+OnePassLaw = (N : Nest) (B : LoopCode) (l : Level) (V W : ℕ → ℕ → Option Fact) → IsNest N → Among N l
+    → AreFacts N B l V → AreFacts N B l W → (v r : ℕ) → Holds l v → V v r ≡ W v r

@@ -14,7 +14,7 @@ use Rattle.rv64_decode.specs.declared.instr.UpperOp.TheVariants.{Lui, Auipc}
 use Rattle.rv64_decode.specs.declared.instr.StoreOp.{StoreOp}
 use Rattle.rv64_decode.specs.declared.instr.StoreOp.TheVariants.{Sw}
 use Rattle.linear_forms.specs.Forms.{word_of, constant_fits}
-use Rattle.loop_data.specs.Locations.{first_cell}
+use Rattle.loop_data.specs.Locations.{first_cell, word_writes, no_cells}
 use Rattle.loop_data.specs.LoopCode.{LoopCode, writes}
 
 pub data Fact : Type 0 where
@@ -116,3 +116,7 @@ written_fact u (Some i) cell r V = if nat_lt r first_cell then register_fact u i
 -- what is known of a location after the word at u
 abbrev pub fact_after : LoopCode → ℕ → (ℕ → Option Fact) → ℕ → Option Fact
 fact_after B u V r = if writes B u r then written_fact u (B.instr u) (B.cells.uses u) r V else V r
+
+-- the same after a word of a loop without cells
+abbrev pub fact_past : ℕ → Option Instr → (ℕ → Option Fact) → ℕ → Option Fact
+fact_past u i V r = if word_writes no_cells u i r then written_fact u i None r V else V r

@@ -27,3 +27,7 @@ pub mod Equations
 pub mod Classes
 pub mod Executing
 pub mod FactLaws
+pub mod Flows
+pub mod Lookups
+pub mod Results
+pub mod ValueStates

@@ -1,0 +1,309 @@
+ghost use Rattle.std.specs.Prelude.{◌≡◌, ◌<◌, ◌≤◌, ◌↔◌, ◌^◌, ◌+ℤ◌, ◌-ℤ◌, ◌*ℤ◌, ℤ, pos, Some, None, true, false, IsTrue};
+ghost use Rattle.rv64_decode.specs.Row.{signed32, signed64};
+ghost use Rattle.linear_forms.specs.Forms.{constant_fits};
+ghost use Rattle.linear_forms.specs.Locations.{number_of};
+ghost use Rattle.loop_data.specs.Facts.{Fact, Number, Offset, ranged, short_of, fact_read, fact_sum, fact_difference, fact_short, fact_shifted, alu_fact, imm_fact, upper_fact, register_fact, fact_past};
+ghost use Rattle.loop_data.specs.Locations.{target, word_writes, no_cells};
+ghost use Rattle.loop_data.specs.Lookups.{fact_of, fact_in};
+
+use crate::values::Value;
+use linear_forms::Loc;
+use rv64_decode::{AluOp, ImmOp, Instr, Reg, UpperOp};
+
+/// The least number that no number of 32 bits reaches.
+const LIMIT: i64 = 1 << 31;
+
+/// Whether it is a signed number of 32 bits.
+fn is_short(number: i64) -> bool
+    ensures { result ≡ constant_fits number }
+{
+    -LIMIT <= number && number < LIMIT
+}
+
+/// The number, where it is one of 32 bits.
+fn known(number: i64) -> Value
+    ensures { fact_of result ≡ ranged (Some (Number number)) }
+{
+    if is_short(number) {
+        Value::Known(number.cast_unsigned())
+    } else {
+        Value::Nothing
+    }
+}
+
+/// The value of a location at the header, and this number, where it is one of 32 bits.
+fn based(loc: Loc, number: i64) -> Value
+    ensures { fact_of result ≡ ranged (Some (Offset (number_of loc) number)) }
+{
+    if is_short(number) {
+        Value::Base(loc, number.cast_unsigned())
+    } else {
+        Value::Nothing
+    }
+}
+
+/// The sum of two known words.
+fn known_sum(n: u64, m: u64) -> Value
+    ensures { fact_of result ≡ ranged (Some (Number (signed64 n +ℤ signed64 m))) }
+{
+    match n.cast_signed().checked_add(m.cast_signed()) {
+        Some(sum) => known(sum),
+        None => Value::Nothing,
+    }
+}
+
+/// The sum of a known word and a location's value with another.
+fn based_sum(loc: Loc, n: u64, m: u64) -> Value
+    ensures { fact_of result ≡ ranged (Some (Offset (number_of loc) (signed64 n +ℤ signed64 m))) }
+{
+    match n.cast_signed().checked_add(m.cast_signed()) {
+        Some(sum) => based(loc, sum),
+        None => Value::Nothing,
+    }
+}
+
+/// The difference of two known words.
+fn known_difference(n: u64, m: u64) -> Value
+    ensures { fact_of result ≡ ranged (Some (Number (signed64 n -ℤ signed64 m))) }
+{
+    match n.cast_signed().checked_sub(m.cast_signed()) {
+        Some(difference) => known(difference),
+        None => Value::Nothing,
+    }
+}
+
+/// The difference of a location's value with a word, and a known one.
+fn based_difference(loc: Loc, n: u64, m: u64) -> Value
+    ensures { fact_of result ≡ ranged (Some (Offset (number_of loc) (signed64 n -ℤ signed64 m))) }
+{
+    match n.cast_signed().checked_sub(m.cast_signed()) {
+        Some(difference) => based(loc, difference),
+        None => Value::Nothing,
+    }
+}
+
+/// A known number plus any value, in either order.
+fn sum(a: Value, b: Value) -> Value
+    ensures { fact_of result ≡ ranged (fact_sum (fact_of a) (fact_of b)) }
+{
+    match (a, b) {
+        (Value::Known(n), Value::Known(m)) => known_sum(n, m),
+        (Value::Known(n), Value::Base(loc, m)) => based_sum(loc, n, m),
+        (Value::Base(loc, n), Value::Known(m)) => based_sum(loc, n, m),
+        _ => Value::Nothing,
+    }
+}
+
+/// Any value minus a known number.
+fn difference(a: Value, b: Value) -> Value
+    ensures { fact_of result ≡ ranged (fact_difference (fact_of a) (fact_of b)) }
+{
+    match (a, b) {
+        (Value::Known(n), Value::Known(m)) => known_difference(n, m),
+        (Value::Base(loc, n), Value::Known(m)) => based_difference(loc, n, m),
+        _ => Value::Nothing,
+    }
+}
+
+/// The low half of a word, sign-extended.
+fn short(word: u64) -> i64
+    ensures { result ≡ signed32 word }
+{
+    ((word % (1 << 32)) as u32).cast_signed() as i64
+}
+
+/// A sum of which a known number is sign-extended from 32 bits.
+fn short_sum(a: Value, b: Value) -> Value
+    ensures { fact_of result ≡ ranged (fact_short (fact_sum (fact_of a) (fact_of b))) }
+{
+    match (a, b) {
+        (Value::Known(n), Value::Known(m)) => known(short(n.wrapping_add(m))),
+        (Value::Known(n), Value::Base(loc, m)) => based_sum(loc, n, m),
+        (Value::Base(loc, n), Value::Known(m)) => based_sum(loc, n, m),
+        _ => Value::Nothing,
+    }
+}
+
+/// A difference of which a known number is sign-extended from 32 bits.
+fn short_difference(a: Value, b: Value) -> Value
+    ensures { fact_of result ≡ ranged (fact_short (fact_difference (fact_of a) (fact_of b))) }
+{
+    match (a, b) {
+        (Value::Known(n), Value::Known(m)) => known(short(n.wrapping_sub(m))),
+        (Value::Base(loc, n), Value::Known(m)) => based_difference(loc, n, m),
+        _ => Value::Nothing,
+    }
+}
+
+/// A known number times a power of two.
+fn known_multiple(n: u64, by: i64) -> Value
+    ensures { fact_of result ≡ ranged (Some (Number (by *ℤ signed64 n))) }
+{
+    match by.checked_mul(n.cast_signed()) {
+        Some(product) => known(product),
+        None => Value::Nothing,
+    }
+}
+
+/// A known number, shifted left by up to 30.
+fn shifted(a: Value, amount: i32) -> Value
+    ensures { fact_of result ≡ ranged (fact_shifted (fact_of a) amount) }
+{
+    match a {
+        Value::Known(n) => known_shifted(n, amount),
+        _ => Value::Nothing,
+    }
+}
+
+/// A known word, shifted left by up to 30.
+fn known_shifted(n: u64, amount: i32) -> Value
+    ensures { fact_of result ≡ ranged (fact_shifted (Some (Number (signed64 n))) amount) }
+{
+    if 0 <= amount && amount <= 30 {
+        known_multiple(n, 2i64.pow(amount as u32))
+    } else {
+        Value::Nothing
+    }
+}
+
+/// What a register reads.
+fn read(values: &[Value; 48], r: Reg) -> Value
+    ensures { fact_of result ≡ fact_read (fact_in values.now) r }
+{
+    if r.number() == 0 {
+        Value::Known(0)
+    } else {
+        values[r.number() as usize]
+    }
+}
+
+fn alu_value(op: AluOp, a: Value, b: Value) -> Value
+    ensures { fact_of result ≡ alu_fact op (fact_of a) (fact_of b) }
+{
+    match op {
+        AluOp::Add => sum(a, b),
+        AluOp::Sub => difference(a, b),
+        AluOp::Addw => short_sum(a, b),
+        AluOp::Subw => short_difference(a, b),
+        _ => Value::Nothing,
+    }
+}
+
+fn imm_value(op: ImmOp, a: Value, imm: i32) -> Value
+    ensures { fact_of result ≡ imm_fact op (fact_of a) imm }
+{
+    let number = Value::Known((imm as i64).cast_unsigned());
+    match op {
+        ImmOp::Addi => sum(a, number),
+        ImmOp::Addiw => short_sum(a, number),
+        ImmOp::Slli => shifted(a, imm),
+        _ => Value::Nothing,
+    }
+}
+
+fn upper_value(op: UpperOp, at: u64, imm: i32) -> Value
+    ensures { fact_of result ≡ upper_fact op at imm }
+{
+    match op {
+        UpperOp::Lui => known(imm as i64),
+        UpperOp::Auipc => known(at.wrapping_add((imm as i64).cast_unsigned()).cast_signed()),
+    }
+}
+
+/// What the instruction at an address writes to its register, out of the values before it. A load gives
+/// nothing.
+fn register_value(at: u64, instr: &Instr, values: &[Value; 48]) -> Value
+    ensures { fact_of result ≡ register_fact at instr.now None (fact_in values.now) }
+{
+    match *instr {
+        Instr::Alu {
+            op,
+            rd: _,
+            rs1,
+            rs2,
+        } => alu_value(op, read(values, rs1), read(values, rs2)),
+        Instr::AluImm {
+            op,
+            rd: _,
+            rs1,
+            imm,
+        } => imm_value(op, read(values, rs1), imm),
+        Instr::Upper { op, rd: _, imm } => upper_value(op, at, imm),
+        _ => Value::Nothing,
+    }
+}
+
+/// The number of the register that an instruction writes, or 0.
+pub fn target_of(instr: &Instr) -> u8
+    ensures { result ≡ target instr.now }
+{
+    match *instr {
+        Instr::Alu {
+            op: _,
+            rd,
+            rs1: _,
+            rs2: _,
+        } => rd.number(),
+        Instr::AluImm {
+            op: _,
+            rd,
+            rs1: _,
+            imm: _,
+        } => rd.number(),
+        Instr::Upper { op: _, rd, imm: _ } => rd.number(),
+        Instr::Load {
+            op: _,
+            rd,
+            rs1: _,
+            imm: _,
+        } => rd.number(),
+        Instr::Jal { rd, imm: _ } => rd.number(),
+        Instr::Jalr { rd, rs1: _, imm: _ } => rd.number(),
+        _ => 0,
+    }
+}
+
+/// Whether a word of a loop without cells writes a location.
+pub fn word_writes(at: u64, instr: &Option<Instr>, r: usize) -> bool
+    ensures { result ≡ word_writes no_cells at instr.now r }
+{
+    match instr {
+        Some(instr) => r != 0 && r < 32 && target_of(instr) as usize == r,
+        None => false,
+    }
+}
+
+/// What is known of a location after a word of a loop without cells, out of what is known before it.
+pub fn value_after(at: u64, instr: &Option<Instr>, values: &[Value; 48], r: usize) -> Value
+    requires { r < 48 }
+    ensures { fact_of result ≡ fact_past at instr.now (fact_in values.now) r }
+{
+    if !word_writes(at, instr, r) {
+        return values[r];
+    }
+    match instr {
+        Some(instr) => register_value(at, instr, values),
+        None => Value::Nothing,
+    }
+}
+
+/// Whether both stand for the same fact, and for one at all.
+fn is_same(a: Value, b: Value) -> bool
+    ensures yes { result ≡ true → fact_of a ≡ fact_of b }
+    ensures no { result ≡ false → (x : Fact) → fact_of a ≡ Some x → ¬ (fact_of b ≡ Some x) }
+{
+    match (a, b) {
+        (Value::Known(n), Value::Known(m)) => n.cast_signed() == m.cast_signed(),
+        (Value::Base(p, n), Value::Base(q, m)) => {
+            p.number() == q.number() && n.cast_signed() == m.cast_signed()
+        }
+        _ => false,
+    }
+}
+
+/// What two values have in common: a fact where both stand for it.
+pub fn met(a: Value, b: Value) -> Value
+    ensures { (x : Fact) → (fact_of result ≡ Some x) ↔ ((fact_of a ≡ Some x) × (fact_of b ≡ Some x)) }
+{
+    if is_same(a, b) { a } else { Value::Nothing }
+}
