@@ -11,6 +11,8 @@ pub enum Loc {
 }
 
 impl Default for Loc {
+    ghost is_default = { λ l. IsLocation l };
+
     fn default() -> Loc {
         Loc::Reg(1)
     }

@@ -60,6 +60,8 @@ fn limits(rt: HostRuntime) -> Result<(), Fail> {
         "a fifth term"
     );
     assert!(rt; Form::pure(2147483648) == None, "a constant of 2^31");
+    assert!(rt; Form::pure(-2147483648) != None, "the least constant");
+    assert!(rt; Form::pure(-2147483649) == None, "a constant below it");
     assert!(rt;
         Form::pure(2147483647)
             .ok_or("the greatest")?
@@ -67,6 +69,7 @@ fn limits(rt: HostRuntime) -> Result<(), Fail> {
             == None
     );
     assert!(rt; one.scale(1073741824) == None, "a coefficient of 2^30");
+    assert!(rt; one.scale(-1073741824) == None, "a coefficient of -2^30");
     assert!(rt; one.scale(-1073741823) != None, "the least coefficient");
     assert!(rt;
         four.scale(0).ok_or("0")? == Form::pure(0).ok_or("0")?,

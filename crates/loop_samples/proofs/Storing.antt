@@ -29,11 +29,11 @@ locations =
     roles_from_test store_loop no_cells 32 store_roles storing 2 8
     (record { tested = all_tested; last = short.last_turn storing all_regular; high = high; same = no_cells_same storing.regs storing })
 
-first : Writes store_loop storing 0 0x2_0000
+pub first : Writes store_loop storing 0 0x2_0000
 unfolding step
 first = record { at = 0; turn = refl; stores = refl }
 
-second : Writes store_loop storing 1 0x2_0000
+pub second : Writes store_loop storing 1 0x2_0000
 unfolding step
 second = record { at = 4; turn = refl; stores = refl }
 

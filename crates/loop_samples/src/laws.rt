@@ -11,6 +11,14 @@ ghost use Rattle.loop_samples.specs.NestLoop.{outer, nest, two_cells, counting, 
 ghost use Rattle.loop_samples.specs.SumLoop.{sum_loop, powers};
 ghost use Rattle.loop_samples.specs.StoreLoop.{store_loop, storing, store_roles};
 ghost use Rattle.loop_samples.specs.Refused.{cells_with, cells_without_store, unwritten_roles, fast_forms, other_areas, gap_loop};
+ghost use Rattle.loop_data.specs.Turns.{seen};
+ghost use Rattle.std.specs.Prelude.{[], ◌∷◌};
+ghost use Rattle.loop_data.specs.Independent.{Keeps};
+ghost use Rattle.rv64_decode.specs.declared.memory.Width.{Width};
+ghost use Rattle.loop_samples.specs.Samples.{code_area};
+ghost use Rattle.loop_samples.specs.AddLoop.{words};
+ghost use Rattle.loop_samples.specs.ShiftLoop.{shift_loop, shifting, shift_roles};
+ghost use Rattle.loop_samples.specs.Trial.{cells_without_load, moving_cell, cell_beside, fast_roles, private_counter, array_area, areas_with, AddLoads, AddStores};
 ghost use Rattle.loop_samples.specs.SpinLoop.{spin_loop, spinning};
 ghost use Rattle.loop_samples.specs.SerialRun.{state_in, IsSerial};
 ghost use Rattle.serial_run.specs.Serial.{State as SerialState, ended, serial};
@@ -121,4 +129,30 @@ pub fn code_tells_the_loop()
 pub fn run_is_serial()
     ensures { (s : SerialState) (n pc : ℕ) → ended s ≡ None → (run (state_in s) n).next ≡ At pc
         → IsSerial (run (state_in s) n) s (serial n s) }
+{}
+
+/// A turn that stores what the turn before has loaded is not apart from it.
+pub fn turns_of_a_shift_depend()
+    ensures turns { AreTurns shift_loop shifting 2 }
+    ensures cells { AreCells shift_loop no_cells shifting 2 }
+    ensures locations { HaveRoles shift_loop no_cells shift_roles shifting 2 }
+    ensures not { ¬ AreApart shift_loop no_cells shifting 2 }
+{}
+
+/// More that is refused.
+pub fn more_is_refused()
+    ensures unloaded { ¬ AreCells outer cells_without_load counting 1 }
+    ensures moving { ¬ AreCells chain_loop moving_cell numbers 2 }
+    ensures beside { ¬ AreApart store_loop cell_beside storing 2 }
+    ensures kept { ¬ HaveRoles add_loop no_cells (λ r. Keeps) arrays 1 }
+    ensures fast { ¬ HaveRoles add_loop no_cells fast_roles arrays 1 }
+    ensures counter { ¬ HaveRoles outer two_cells private_counter counting 1 }
+    ensures seen { seen add_loop arrays 10 ≡ 0x1_00F4 ∷ 0x1_00F0 ∷ [] }
+    ensures low { ¬ AtLoop (areas_with (record array_area { low = 0x3_0000 })) add_loop arrays }
+    ensures short { ¬ AtLoop (areas_with (record array_area { bytes = [] })) add_loop arrays }
+    ensures readable { ¬ AtLoop (areas_with (record array_area { readable = false })) add_loop arrays }
+    ensures writable { ¬ AtLoop (areas_with (record array_area { writable = false })) add_loop arrays }
+    ensures executable { ¬ AtLoop (areas_with (record array_area { executable = true })) add_loop arrays }
+    ensures alone { ¬ AtLoop (code_area 0x1_00F0 words ∷ []) add_loop arrays }
+    ensures gap { ¬ Stays gap_loop arrays 0 }
 {}
