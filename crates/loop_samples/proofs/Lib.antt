@@ -9,5 +9,5 @@ pub mod Nested
 pub mod Refused
 pub mod SerialRun
 pub mod Spinning
-pub mod Trial
 pub mod Shifting
+pub mod Misfits

@@ -7,5 +7,5 @@ pub mod NestLoop
 pub mod Refused
 pub mod SerialRun
 pub mod SpinLoop
-pub mod Trial
 pub mod ShiftLoop
+pub mod Misfits

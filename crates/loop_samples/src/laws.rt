@@ -1,29 +1,24 @@
 ghost use Rattle.rv64_decode.specs.Area.{number_at};
-ghost use Rattle.loop_data.specs.Independent.{Role, Private, AreTurns, AreCells, AreApart, HaveRoles, Independent};
+ghost use Rattle.loop_data.specs.Independent.{Role, Keeps, Private, AreTurns, AreCells, AreApart, HaveRoles, Independent};
 ghost use Rattle.loop_data.specs.Holds.{FormsHold};
 ghost use Rattle.loop_data.specs.Locations.{no_cells, value_of};
 ghost use Rattle.loop_data.specs.declared.shape.Level.{Level};
 ghost use Rattle.loop_data.specs.Runs.{State, run};
-ghost use Rattle.loop_data.specs.Turns.{AtLoop, Stays};
-ghost use Rattle.loop_samples.specs.AddLoop.{add_loop, areas, arrays, add_roles, AddTurns, AddReads, AddWrites};
+ghost use Rattle.loop_data.specs.Turns.{AtLoop, Stays, seen, covers};
+ghost use Rattle.loop_samples.specs.AddLoop.{words, add_loop, areas, arrays, add_roles, AddTurns, AddReads, AddWrites};
 ghost use Rattle.loop_samples.specs.ChainLoop.{chain_loop, numbers, chain_roles};
 ghost use Rattle.loop_samples.specs.NestLoop.{outer, nest, two_cells, counting, nest_roles, nest_forms, NestPasses, NestPassed};
 ghost use Rattle.loop_samples.specs.SumLoop.{sum_loop, powers};
 ghost use Rattle.loop_samples.specs.StoreLoop.{store_loop, storing, store_roles};
 ghost use Rattle.loop_samples.specs.Refused.{cells_with, cells_without_store, unwritten_roles, fast_forms, other_areas, gap_loop};
-ghost use Rattle.loop_data.specs.Turns.{seen};
-ghost use Rattle.std.specs.Prelude.{[], ◌∷◌};
-ghost use Rattle.loop_data.specs.Independent.{Keeps};
-ghost use Rattle.rv64_decode.specs.declared.memory.Width.{Width};
 ghost use Rattle.loop_samples.specs.Samples.{code_area};
-ghost use Rattle.loop_samples.specs.AddLoop.{words};
 ghost use Rattle.loop_samples.specs.ShiftLoop.{shift_loop, shifting, shift_roles};
-ghost use Rattle.loop_samples.specs.Trial.{cells_without_load, moving_cell, cell_beside, fast_roles, private_counter, array_area, areas_with, AddLoads, AddStores};
+ghost use Rattle.loop_samples.specs.Misfits.{cells_without_load, moving_cell, cell_beside, fast_roles, private_counter, array_area, areas_with};
 ghost use Rattle.loop_samples.specs.SpinLoop.{spin_loop, spinning};
 ghost use Rattle.loop_samples.specs.SerialRun.{state_in, IsSerial};
 ghost use Rattle.serial_run.specs.Serial.{State as SerialState, ended, serial};
 ghost use Rattle.rv64_decode.specs.declared.outcome.Next.TheVariants.{At};
-ghost use Rattle.std.specs.Prelude.{ℕ, true, false, None, ◌≡◌, ◌-◌, ◌^◌};
+ghost use Rattle.std.specs.Prelude.{ℕ, true, false, None, [], ◌∷◌, ◌↔◌, ◌≡◌, ◌<◌, ◌≤◌, ◌+◌, ◌-◌, ◌^◌};
 
 /// The loop that adds arrays of 20 numbers: its turns, the bytes that they read and write, and how many
 /// of them stay.
@@ -139,8 +134,13 @@ pub fn turns_of_a_shift_depend()
     ensures not { ¬ AreApart shift_loop no_cells shifting 2 }
 {}
 
-/// More that is refused.
-pub fn more_is_refused()
+/// The bytes of an access are those from its address on.
+pub fn bytes_of_an_access()
+    ensures { (addr count b : ℕ) → (covers addr count b ≡ true) ↔ ((addr ≤ b) × (b < addr + count)) }
+{}
+
+/// Cells, roles, areas and stays that do not fit the loops.
+pub fn misfits_are_refused()
     ensures unloaded { ¬ AreCells outer cells_without_load counting 1 }
     ensures moving { ¬ AreCells chain_loop moving_cell numbers 2 }
     ensures beside { ¬ AreApart store_loop cell_beside storing 2 }
