@@ -1,11 +1,10 @@
 -- The facts at the words of a loop are the only ones that its equations have.
-use Rattle.std.proofs.Common.{◌≡◌, ◌≢◌, ℕ, zero, suc, ◌+◌, ◌<◌, ◌≤◌, ◌⊎◌, ◌↔◌, inl, inr, ◌==◌, ◌||◌, ◌&&◌, Bool, true, false, if◌then◌else◌, List, [], ◌∷◌, Option, Some, None, refl, ap, sym, ◌∙◌, subst, arith}
+use Rattle.std.proofs.Common.{◌≡◌, ◌≢◌, ℕ, zero, suc, ◌<◌, ◌⊎◌, ◌↔◌, inl, inr, ◌==◌, ◌||◌, ◌&&◌, Bool, true, false, if◌then◌else◌, List, [], ◌∷◌, Option, Some, None, refl, ap, sym, ◌∙◌, subst, arith}
 use Rattle.std.proofs.lemmas.Bool.{cases_eq}
 use mathlib.Core.Path.{fun_ext}
-use Rattle.loop_data.specs.declared.graph.Graph.{Graph}
 use Rattle.loop_data.specs.declared.shape.Level.{Level}
 use Rattle.loop_data.specs.Nests.{Nest, has, In, levels, Among, Holds, IsNest}
-use Rattle.loop_data.specs.LoopCode.{LoopCode, writes, any_writes, IsUnwritten, IsWritten, IsForwardIn, LiesIn}
+use Rattle.loop_data.specs.LoopCode.{LoopCode, writes, any_writes, IsWritten, IsForwardIn, LiesIn}
 use Rattle.loop_data.specs.Facts.{Fact, fact_after}
 use Rattle.loop_data.specs.FactPass.{IsKeptAt, AreFacts}
 use Rattle.loop_data.specs.ValueStates.{lost_by}

@@ -1,5 +1,5 @@
 -- The sources of the words of a loop are the edges that close no loop of its nest, and have a rank.
-use Rattle.std.proofs.Common.{◌≡◌, ◌≢◌, ℕ, zero, suc, ◌+◌, ◌<◌, ◌≤◌, ◌⊎◌, ◌↔◌, inl, inr, ◌==◌, ◌&&◌, Bool, true, false, if◌then◌else◌, nat_lt, List, [], ◌∷◌, length, get_or, refl, ap, sym, ◌∙◌, subst, arith}
+use Rattle.std.proofs.Common.{◌≡◌, ◌≢◌, ℕ, zero, suc, ◌<◌, ◌≤◌, ◌⊎◌, inl, inr, ◌==◌, ◌&&◌, Bool, true, false, if◌then◌else◌, nat_lt, List, [], ◌∷◌, length, get_or, refl, ap, sym, ◌∙◌, subst, arith}
 use Rattle.std.specs.List.{All, Contains}
 use Rattle.std.specs.List.Sorted.{IsStrictlyIncreasing}
 use Rattle.std.proofs.lemmas.Bool.{cases_eq}
@@ -8,10 +8,10 @@ use Rattle.std.proofs.lemmas.List.{get_or_default}
 use Rattle.std.proofs.lemmas.List.Elements.{Contains-get_or}
 use Rattle.loop_data.specs.declared.graph.Graph.{Graph}
 use Rattle.loop_data.specs.declared.shape.Level.{Level}
-use Rattle.loop_data.specs.Nests.{Nest, has, nest_of, In, levels, Among, Holds, Edge, ClosesNone, IsRank, IsNest}
+use Rattle.loop_data.specs.Nests.{Nest, has, nest_of, In, Among, Holds}
 use Rattle.loop_data.specs.LoopWords.{AreNest}
 use Rattle.loop_data.specs.LoopCode.{IsForwardIn}
-use Rattle.loop_data.specs.Flows.{row_at, at, closes_one, IsOpenEdge, HasSources, IsRowRank, HasRowRank}
+use Rattle.loop_data.specs.Flows.{row_at, at, closes_one, HasSources, HasRowRank}
 use Rattle.loop_data.proofs.Tests.{eq_of, is_eq, and_true, true_and}
 use Rattle.loop_data.proofs.Steps.{leads_is, is_leads, has_contains, contains_has}
 

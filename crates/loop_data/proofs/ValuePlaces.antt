@@ -1,8 +1,8 @@
 -- Points whose values are set place by place, and what they are in the end.
-use Rattle.std.proofs.Common.{◌≡◌, ◌≢◌, ℕ, zero, suc, ◌+◌, ◌<◌, ◌≤◌, ◌⊎◌, ◌↔◌, inl, inr, ◌==◌, ◌||◌, ◌&&◌, Bool, true, false, if◌then◌else◌, nat_lt, List, [], ◌∷◌, length, map, get_or, set, Option, Some, None, is_some, refl, ap, sym, ◌∙◌, subst, arith}
+use Rattle.std.proofs.Common.{◌≡◌, ◌≢◌, ℕ, zero, suc, ◌+◌, ◌<◌, ◌≤◌, ◌⊎◌, ◌↔◌, inl, inr, ◌==◌, ◌||◌, ◌&&◌, Bool, true, false, if◌then◌else◌, nat_lt, List, [], ◌∷◌, length, map, get_or, set, Option, Some, None, refl, ap, sym, ◌∙◌, subst, arith}
 use Rattle.std.specs.List.{Contains}
 use Rattle.std.specs.List.Sorted.{IsStrictlyIncreasing}
-use Rattle.std.proofs.lemmas.Bool.{cases_eq, cases_lt}
+use Rattle.std.proofs.lemmas.Bool.{cases_eq}
 use Rattle.std.proofs.lemmas.Bool.Decides.{nat_tests}
 use mathlib.Core.Path.{fun_ext}
 use Rattle.std.proofs.lemmas.List.{get_or-set_same, get_or-set_other, get_or_default, get_or-map, length-map}
@@ -16,15 +16,14 @@ use Rattle.loop_data.specs.declared.values.Values.{Values}
 use Rattle.loop_data.specs.Nests.{Nest, has, nest_of, In, levels, Among, Holds, IsNest}
 use Rattle.loop_data.specs.LoopWords.{AreNest}
 use Rattle.loop_data.specs.Locations.{CellMap, first_cell, word_writes, no_cells, cell_at}
-use Rattle.loop_data.specs.LoopCode.{LoopCode, instr_among, code_of, writes, any_writes, IsUnwritten, IsWritten, IsForwardIn, LiesIn}
+use Rattle.loop_data.specs.LoopCode.{LoopCode, instr_among, code_of, writes, any_writes, IsWritten, IsForwardIn, LiesIn}
 use Rattle.loop_data.specs.Facts.{Fact, written_fact, fact_after}
 use Rattle.loop_data.specs.FactPass.{header_fact, IsKeptAt, AreFacts}
-use Rattle.loop_data.specs.Flows.{rows, row_at, at, HasSources, IsOrder, IsWholeOrder, IsFlow}
+use Rattle.loop_data.specs.Flows.{rows, row_at, at, HasSources, IsOrder, IsFlow}
 use Rattle.loop_data.specs.Lookups.{fact_of, fact_in, fact_at}
 use Rattle.loop_data.specs.Results.{IsNestOf, AreFactsOf}
 use Rattle.loop_data.specs.ValueStates.{nothing_known, values_at, past, lost_by, IsInnerFact, IsState, IsPlace, IsSetAt}
-use Rattle.loop_data.proofs.Tests.{eq_of, is_eq, is_ne, true_or_false, yes_no, and_true, not_true}
-use Rattle.loop_data.proofs.FlowWords.{same_place}
+use Rattle.loop_data.proofs.Tests.{eq_of, is_eq, is_ne, true_or_false, yes_no}
 use Rattle.loop_data.proofs.FlowEdges.{sources_forward, forward_sources, place_of_word, listed_in}
 
 low_of : (r n : ℕ) → nat_lt r n ≡ true → r < n

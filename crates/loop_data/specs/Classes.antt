@@ -1,8 +1,8 @@
 -- The classes of the locations that a loop writes, by the paths of its turns.
-use Rattle.std.specs.Prelude.{ℕ, ◌≡◌, Bool, true, false, List, Option, Some, None, ℤ}
+use Rattle.std.specs.Prelude.{ℕ, ◌≡◌, true, false, List, Option, Some, ℤ}
 use Rattle.linear_forms.specs.Forms.{is_small}
 use Rattle.loop_data.specs.declared.shape.Level.{Level}
-use Rattle.loop_data.specs.Nests.{Nest, has, Among, Holds, IsPassTo, IsPass}
+use Rattle.loop_data.specs.Nests.{Nest, has, Holds, IsPassTo, IsPass}
 use Rattle.loop_data.specs.Independent.{Role, Keeps, Moves, Private}
 use Rattle.loop_data.specs.LoopCode.{LoopCode, writes, reads, any_writes, IsUnwritten, IsWritten, LiesIn}
 use Rattle.loop_data.specs.Facts.{Fact, Offset, fact_after}

@@ -1,13 +1,13 @@
 -- Locations: registers by their numbers, and from 32 on the cells of a loop; their values, and the words
 -- that read and write them.
-use Rattle.std.specs.Prelude.{ℕ, zero, suc, ◌≡◌, ◌==◌, ◌+◌, ◌-◌, Bool, true, false, ◌&&◌, ◌||◌, nat_lt, if◌then◌else◌, List, [], ◌∷◌, ℤ, pos, Option, Some, None}
-use Rattle.rv64_decode.specs.Area.{Area, bytes_of, number_at}
+use Rattle.std.specs.Prelude.{ℕ, zero, suc, ◌==◌, ◌+◌, ◌-◌, Bool, true, false, ◌||◌, nat_lt, if◌then◌else◌, List, [], ◌∷◌, ℤ, Option, Some, None}
+use Rattle.rv64_decode.specs.Area.{Area, number_at}
 use Rattle.rv64_decode.specs.Registers.{register}
 use Rattle.rv64_decode.specs.Row.{plus_offset, extended32}
 use Rattle.rv64_decode.specs.declared.memory.Width.{Width}
 use Rattle.rv64_decode.specs.declared.memory.Width.TheVariants.{Four, Eight}
 use Rattle.rv64_decode.specs.declared.instr.Instr.{Instr}
-use Rattle.rv64_decode.specs.declared.instr.Instr.TheVariants.{Alu, AluImm, Upper, Load, Store, Branch, Jal, Jalr, Fence, Ecall, Ebreak}
+use Rattle.rv64_decode.specs.declared.instr.Instr.TheVariants.{Alu, AluImm, Upper, Load, Store, Branch, Jal, Jalr}
 use Rattle.linear_forms.specs.Forms.{word_of}
 use Rattle.loop_data.specs.declared.verdict.Cell.{Cell}
 use Rattle.loop_data.specs.Runs.{State}

@@ -1,5 +1,5 @@
 -- What the results of the analysis say of an address and a location.
-use Rattle.std.specs.Prelude.{ℕ, ◌==◌, Bool, true, false, nat_lt, if◌then◌else◌, List, [], ◌∷◌, map, Option, Some, None, slice_index_or}
+use Rattle.std.specs.Prelude.{ℕ, ◌==◌, Bool, true, false, nat_lt, if◌then◌else◌, List, [], ◌∷◌, Option, Some, None, slice_index_or}
 use Rattle.rv64_decode.specs.Row.{signed64}
 use Rattle.linear_forms.specs.Forms.{LinearForm}
 use Rattle.linear_forms.specs.Locations.{number_of}

@@ -1,5 +1,5 @@
 -- The words of a loop as the analysis sees them: the instruction at each address, and the cells.
-use Rattle.std.specs.Prelude.{ℕ, ◌≡◌, ◌==◌, ◌-◌, Bool, true, false, nat_lt, if◌then◌else◌, List, [], ◌∷◌, Option, Some, None, is_some}
+use Rattle.std.specs.Prelude.{ℕ, ◌≡◌, ◌==◌, ◌-◌, Bool, true, false, nat_lt, if◌then◌else◌, List, [], ◌∷◌, Option, None, is_some}
 use Rattle.rv64_decode.specs.Table.{decoded}
 use Rattle.rv64_decode.specs.declared.instr.Instr.{Instr}
 use Rattle.loop_data.specs.declared.graph.Word.{Word}

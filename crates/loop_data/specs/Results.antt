@@ -1,5 +1,5 @@
 -- What the passes over a loop and its inner loops give.
-use Rattle.std.specs.Prelude.{ℕ, ◌≡◌, ◌≢◌, ◌<◌, ◌≤◌, ◌⊎◌, ◌↔◌, true, List, [], ◌∷◌, length, map, Option, Some, None, slice_index, slice_index_or, ℤ}
+use Rattle.std.specs.Prelude.{ℕ, ◌≡◌, ◌≢◌, ◌<◌, ◌≤◌, ◌⊎◌, true, List, ◌∷◌, length, map, Option, Some, None, slice_index, slice_index_or, ℤ}
 use Rattle.std.specs.List.{Contains}
 use Rattle.std.specs.List.Sorted.{IsStrictlyIncreasing}
 use Rattle.linear_forms.specs.Forms.{LinearForm}

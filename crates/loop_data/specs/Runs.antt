@@ -1,6 +1,6 @@
 -- The run of a machine whose words stand in its memory, until a fault or a call of the environment. It
 -- is the serial run as far as no call is made.
-use Rattle.std.specs.Prelude.{ℕ, zero, suc, ◌≡◌, ◌==◌, Bool, true, false, if◌then◌else◌, List, Option, Some, None, Result, Ok, Err}
+use Rattle.std.specs.Prelude.{ℕ, zero, suc, Bool, false, List, Option, Some, None, Result, Ok, Err}
 use Rattle.rv64_decode.specs.Area.{Area, fetch_of}
 use Rattle.rv64_decode.specs.Ask.{Ask, Nothing, answer, after}
 use Rattle.rv64_decode.specs.Table.{decoded}

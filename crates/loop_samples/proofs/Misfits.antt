@@ -1,13 +1,13 @@
 -- What does not fit the loops of the samples.
-use Rattle.std.proofs.Common.{◌≡◌, ℕ, zero, suc, ◌+◌, ◌*◌, ◌<◌, ◌≤◌, ◌⊎◌, ◌↔◌, Bool, true, false, ◌&&◌, Option, Some, None, [], ◌∷◌, refl, ap, sym, ◌∙◌, subst, arith, pos, ◌==◌, nat_le, nat_lt, length}
+use Rattle.std.proofs.Common.{◌≡◌, ℕ, zero, suc, ◌+◌, ◌<◌, ◌≤◌, ◌↔◌, Bool, true, false, Option, Some, None, [], ◌∷◌, refl, ap, sym, ◌∙◌, subst, arith, pos, nat_le, nat_lt}
 use Rattle.std.proofs.lemmas.Bool.Decides.{nat_tests}
 use Rattle.rv64_decode.specs.declared.memory.Width.TheVariants.{Eight}
 use native.Mathlib.Decide.{dec_le}
 use Rattle.loop_data.specs.Nests.{has}
 use Rattle.loop_data.specs.declared.verdict.Cell.{Cell}
-use Rattle.loop_data.specs.Runs.{State, step, run, walk, pc_in, goes_at, instr, instr_at, access}
-use Rattle.loop_data.specs.Turns.{AtLoop, turn, seen, covers, loads_byte, Leaves, Stays, Reads, Writes}
-use Rattle.loop_data.specs.Locations.{no_cells, cell_at, value_of, word_reads, some_writes}
+use Rattle.loop_data.specs.Runs.{step, run, walk, pc_in, goes_at, instr, access}
+use Rattle.loop_data.specs.Turns.{AtLoop, turn, seen, covers, loads_byte, Leaves, Stays}
+use Rattle.loop_data.specs.Locations.{no_cells, cell_at, value_of, word_reads}
 use Rattle.loop_data.specs.Independent.{Keeps, in_cell, IsAccess, AreCells, AreApart, HaveRoles}
 use Rattle.loop_samples.specs.Samples.{code_area}
 use Rattle.loop_samples.specs.AddLoop.{add_loop, arrays, words}

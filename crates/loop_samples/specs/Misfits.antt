@@ -1,10 +1,10 @@
 -- More of what does not fit the loops of the samples.
-use Rattle.std.specs.Prelude.{ℕ, ◌==◌, ◌+◌, ◌*◌, ◌≤◌, ◌<◌, ◌↔◌, ◌⊎◌, if◌then◌else◌, true, false, List, [], ◌∷◌, ◌++◌, Option, Some, None, pos}
+use Rattle.std.specs.Prelude.{ℕ, ◌==◌, if◌then◌else◌, true, false, List, [], ◌∷◌, ◌++◌, Option, Some, None, pos}
 use Rattle.rv64_decode.specs.Area.{Area}
 use Rattle.loop_data.specs.Locations.{CellMap}
 use Rattle.loop_data.specs.Independent.{Role, Moves, Private}
 use Rattle.loop_samples.specs.Samples.{series, code_area, data_area}
-use Rattle.loop_samples.specs.AddLoop.{add_loop, arrays, add_roles, words}
+use Rattle.loop_samples.specs.AddLoop.{add_roles, words}
 use Rattle.loop_samples.specs.NestLoop.{counter, number, used_by, nest_roles}
 
 -- the nest's cells, where the load of the counter is not one of its uses

@@ -1,7 +1,6 @@
 use Rattle.std.proofs.Common.{◌≡◌, ◌∙◌, List, sym, subst, get_or, ap, length, ◌<◌}
 use Rattle.rv64_decode.specs.Table.{decoded}
 use Rattle.loop_data.specs.declared.graph.Word.{Word}
-use Rattle.loop_data.specs.LoopCode.{instr_among}
 use Rattle.loop_data.specs.Paths.{addresses_of}
 use Rattle.loop_data.proofs.FlowWords.{instr_is, no_instr}
 use Rattle.loop_data.proofs.flow.instr_at.Goals as goal

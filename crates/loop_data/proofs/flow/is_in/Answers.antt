@@ -1,4 +1,4 @@
-use Rattle.std.proofs.Common.{sym, get_or, subst}
+use Rattle.std.proofs.Common.{sym, subst}
 use Rattle.std.proofs.lemmas.List.Elements.{Contains-get_or}
 use Rattle.std.specs.List.{Contains}
 use Rattle.loop_data.proofs.Steps.{has_contains, contains_has}

@@ -1,7 +1,7 @@
-use Rattle.std.proofs.Common.{◌≡◌, ◌<◌, ◌∙◌, sym, arith, length, subst}
+use Rattle.std.proofs.Common.{◌≡◌, ◌<◌, arith, length, subst}
 use Rattle.std.proofs.lemmas.List.{length-map}
 use Rattle.loop_data.specs.Flows.{rows, items_of}
-use Rattle.loop_data.proofs.FlowOrders.{whole_from, below_more, marked_none}
+use Rattle.loop_data.proofs.FlowOrders.{whole_from, below_more}
 use Rattle.loop_data.proofs.flow.order_of.Goals as goal
 
 pub sweep-requires-clause-rows : goal.sweep-requires-clause-rows

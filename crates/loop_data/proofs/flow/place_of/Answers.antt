@@ -1,4 +1,3 @@
-use Rattle.std.proofs.Common.{Err}
 use Rattle.loop_data.proofs.Searched.{none_found}
 use Rattle.loop_data.proofs.flow.place_of.Goals as goal
 

@@ -1,4 +1,4 @@
-use Rattle.std.proofs.Common.{◌≡◌, ◌<◌, ◌+◌, sym, subst, length}
+use Rattle.std.proofs.Common.{◌<◌, ◌+◌, sym, subst}
 use Rattle.std.proofs.lemmas.List.{length-map}
 use Rattle.loop_data.specs.Flows.{rows, items_of, IsSweep}
 use Rattle.loop_data.proofs.FlowOrders.{sweep_more}

@@ -1,4 +1,4 @@
-use Rattle.std.proofs.Common.{◌≡◌, ◌∙◌, List, Bool, true, set, refl, sym, subst, length, ◌<◌, ap}
+use Rattle.std.proofs.Common.{◌∙◌, List, Bool, true, set, refl, sym, subst, length, ◌<◌, ap}
 use Rattle.std.specs.List.{All}
 use Rattle.std.proofs.lemmas.List.{length-map}
 use Rattle.loop_data.specs.Flows.{rows, items_of, IsSet, IsMarked}

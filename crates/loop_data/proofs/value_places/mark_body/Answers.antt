@@ -1,4 +1,4 @@
-use Rattle.std.proofs.Common.{◌≡◌, ◌∙◌, ◌||◌, Bool, false, get_or, ap}
+use Rattle.std.proofs.Common.{◌∙◌, ◌||◌, false, get_or, ap}
 use Rattle.rv64_decode.specs.declared.instr.Instr.{Instr}
 use Rattle.std.proofs.Common.{Option}
 use Rattle.loop_data.specs.Locations.{word_writes, no_cells}

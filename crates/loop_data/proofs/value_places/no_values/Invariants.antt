@@ -1,4 +1,4 @@
-use Rattle.std.proofs.Common.{◌≡◌, ℕ, map, take}
+use Rattle.std.proofs.Common.{◌≡◌, map, take}
 use Rattle.loop_data.specs.declared.values.Values.{Values}
 use Rattle.loop_data.proofs.value_places.no_values.Given as goal
 

@@ -1,5 +1,4 @@
 use Rattle.std.proofs.Common.{◌≡◌, ℕ, ◌<◌, map, get_or}
-use Rattle.loop_data.specs.declared.shape.Level.{Level}
 use Rattle.loop_data.specs.declared.values.Values.{Values}
 use Rattle.loop_data.specs.Locations.{no_cells}
 use Rattle.loop_data.specs.LoopCode.{code_of}
