@@ -13,7 +13,8 @@ use Rattle.loop_data.specs.Early.{IsBodyWord, Lacks, IsMisshapen}
 use Rattle.loop_shapes.specs.Kinds.{HasKind}
 use Rattle.loop_data.specs.Sets.{IsLeast, HasAtMost}
 use Rattle.loop_shapes.specs.Net.{AreAt}
-use Rattle.loop_shapes.specs.Marks.{IsSet, IsFirstAt, IsUnsound, lesser_of}
+use Rattle.loop_shapes.specs.Marks.{IsFirstAt, lesser_of}
+use Rattle.loop_shapes.specs.Outer.{IsSet, IsUnsound}
 use Rattle.loop_shapes.proofs.Rows.{none_in, contains_more}
 use Rattle.loop_shapes.proofs.ListedRows.{places_rise}
 use Rattle.loop_shapes.proofs.Parts.{contains_map}

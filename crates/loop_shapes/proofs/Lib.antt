@@ -42,3 +42,4 @@ pub mod Gone
 pub mod PlaceCycles
 pub mod Targets
 pub mod AddressLists
+pub mod OuterLoops

@@ -5,7 +5,8 @@ use Rattle.std.proofs.lemmas.Bool.{cases_eq, false≢true}
 use Rattle.loop_data.specs.declared.graph.Graph.{Graph}
 use Rattle.loop_data.specs.Bodies.{IsHeader, InPart, InBody}
 use Rattle.loop_data.specs.Early.{IsMisshapen}
-use Rattle.loop_shapes.specs.Marks.{IsUnsound, HasUnshaped, ArePlacesShaped}
+use Rattle.loop_shapes.specs.Outer.{IsUnsound}
+use Rattle.loop_shapes.specs.Marks.{HasUnshaped, ArePlacesShaped}
 use Rattle.loop_shapes.specs.Net.{AreAt, HasBody}
 use Rattle.loop_shapes.specs.Places.{at}
 use Rattle.loop_data.specs.Sets.{HasAtMost}

@@ -22,5 +22,6 @@ pub mod Marks
 pub mod Nested
 pub mod PlaceSet
 pub mod Astray
+pub mod Outer
 pub mod LoopBody
 pub mod StartFlags

@@ -1,5 +1,5 @@
 -- The words of a loop, by places.
-use Rattle.std.specs.Prelude.{ℕ, ◌≡◌, ◌<◌, ◌≤◌, Option, Some, List, length}
+use Rattle.std.specs.Prelude.{ℕ, ◌≡◌, ◌<◌, ◌≤◌, IsTrue, Option, Some, List, length}
 use Rattle.std.specs.List.{Contains}
 use Rattle.strong_components.specs.Graph.{IsEdge}
 use Rattle.strong_components.specs.declared.graph.Successors.{Successors}
@@ -8,6 +8,7 @@ use Rattle.loop_data.specs.Bodies.{InBody}
 use Rattle.loop_data.specs.Shape.{Leaves, HasOwnShape}
 use Rattle.loop_shapes.specs.declared.loop_body.LoopBody.{LoopBody}
 use Rattle.loop_shapes.specs.Net.{AreAt}
+use Rattle.loop_shapes.specs.Outer.{IsAcyclic}
 use Rattle.loop_shapes.specs.Places.{at, count_of}
 use Rattle.loop_shapes.specs.Program.{IsProgram, program_graph}
 use Rattle.loop_shapes.specs.Search.{IsIndexed}
@@ -28,6 +29,7 @@ pub record IsLoopBody (b : LoopBody) : Type 0 where
   pub short : length b.places.now ≤ 256
   pub indexed : IsIndexed b.places.now b.slots.now
   pub count : length b.slots.now ≡ count_of (body_graph b)
+  pub known : IsTrue b.acyclic → IsAcyclic (body_graph b) (header_of b)
 
 -- a step, if there is one, leads to one of these places
 pub record LeadsIn (places : List ℕ) (target : Option ℕ) : Type 0 where

@@ -7,26 +7,20 @@ use Rattle.loop_shapes.specs.declared.kind.Kind.TheVariants.{Calls, Asks, JumpsA
 use Rattle.loop_shapes.specs.declared.marks.Marks.{Marks}
 use Rattle.loop_data.specs.Bodies.{IsHeader}
 use Rattle.loop_shapes.specs.Kinds.{HasKind}
+use Rattle.loop_shapes.specs.Outer.{AreKnown, IsClean, IsSet, IsUnsound}
 use Rattle.loop_shapes.specs.Places.{AreFlags, at}
 use Rattle.loop_data.specs.Sets.{IsLeast}
-use Rattle.loop_data.specs.Shape.{IsShaped, HasShape}
+use Rattle.loop_data.specs.Shape.{IsShaped}
 
--- a loop that has not the shape stands at x
-pub record IsUnsound (G : Graph) (x : ℕ) : Type 0 where
-  pub header : IsHeader G x
-  pub shape : ¬ HasShape G x
-
--- a flag is set
-abbrev pub IsSet : List Bool → ℕ → Type 0
-IsSet flags i = slice_index_or flags i false ≡ true
-
--- the flags of the words by what they do, and of the loops that have not the shape
+-- the flags of the words by what they do, of the loops that have not the shape, and of outermost loops
+-- that are clean
 pub record AreMarks (G : Graph) (m : Marks) : Type 0 where
   pub calls : AreFlags G (HasKind Calls G) m.calls.items
   pub asks : AreFlags G (HasKind Asks G) m.asks.items
   pub jumps : AreFlags G (HasKind JumpsAnywhere G) m.jumps.items
   pub nothing : AreFlags G (HasKind IsNothing G) m.nothing.items
   pub unsound : AreFlags G (IsUnsound G) m.unsound.items
+  pub clean : AreKnown G (IsClean G) m.clean.items
 
 -- one of two places, or the only one there is, that is not behind the other
 abbrev pub lesser_of : Option ℕ → ℕ → ℕ

@@ -1,9 +1,8 @@
 ghost use Rattle.std.specs.Prelude.{◌≡◌, ◌↔◌, ◌<◌, ℕ, Some, IfOk, OnOk, IsTrue, length};
 ghost use Rattle.std.specs.List.{Contains};
-ghost use Rattle.loop_data.specs.Bodies.{InBody};
-ghost use Rattle.loop_data.specs.Shape.{IsForward, IsOnCycle};
 ghost use Rattle.loop_shapes.specs.Cycles.{HasGone};
 ghost use Rattle.loop_shapes.specs.LoopBody.{IsLoopBody, LeadsOn, LeadsOnFrom, body_graph, header_of};
+ghost use Rattle.loop_shapes.specs.Outer.{IsAcyclic};
 ghost use Rattle.loop_shapes.specs.PlaceSet.{IsPlaceSet};
 ghost use Rattle.loop_shapes.specs.Places.{count_of};
 
@@ -92,11 +91,12 @@ fn take_out_all(body: &LoopBody, gone: &mut PlaceSet, places: &[usize]) -> Resul
 pub fn is_acyclic(body: &LoopBody, gone: &mut PlaceSet) -> Result<bool, AllocError>
     requires body { IsLoopBody body.now }
     requires gone { IsPlaceSet (count_of (body_graph body.now)) gone.old }
-    ensures acyclic { IfOk result (λ b. IsTrue b
-        ↔ ((x : ℕ) → ¬ IsOnCycle (IsForward (body_graph body.now) (header_of body.now))
-        (InBody (body_graph body.now) (header_of body.now)) x)) }
+    ensures acyclic { IfOk result (λ b. IsTrue b ↔ IsAcyclic (body_graph body.now) (header_of body.now)) }
     ensures gone { OnOk result (IsPlaceSet (count_of (body_graph body.now)) gone.new) }
 {
+    if body.acyclic {
+        return Ok(true);
+    }
     gone.clear();
     take_out_all(body, gone, body.places)?;
     let mut next = 0;

@@ -10,7 +10,7 @@ ghost use Rattle.loop_data.specs.Sets.{IsListOf};
 ghost use Rattle.loop_data.specs.Shape.{InNest};
 
 use crate::body::{addresses_at, in_order};
-use crate::early::early_verdict;
+use crate::early::{early_verdict, is_clean};
 use crate::marks::Marks;
 use crate::nest::{headers_of, is_small_nest, round_of};
 use crate::net::{address_of, find};
@@ -47,7 +47,7 @@ fn level(
     if !find_body(program, slots, found, place)? {
         unreachable!()
     }
-    let Some(shape) = own_shape_at(program, slots, found, others, place)? else {
+    let Some(shape) = own_shape_at(program, slots, found, others, false, place)? else {
         unreachable!()
     };
     let body = addresses_at(alloc, &program.net, found)?;
@@ -127,7 +127,8 @@ pub fn loop_at(
     if !find_body(program, slots, found, place)? {
         return Ok(judged(alloc, header, Verdict::Limit { at: header }));
     }
-    if let Some(verdict) = early_verdict(&program.net, marks, found, header) {
+    let clean = is_clean(program, marks, place);
+    if let Some(verdict) = early_verdict(&program.net, marks, found, header, clean) {
         return Ok(judged(alloc, header, verdict));
     }
     let Some(headers) = headers_of(alloc, program, slots, found)? else {

@@ -27,6 +27,7 @@ mod nest;
 mod net;
 mod numbers;
 mod open;
+mod outer;
 mod place_set;
 mod places;
 mod program;

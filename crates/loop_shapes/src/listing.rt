@@ -12,6 +12,7 @@ ghost use Rattle.loop_shapes.specs.Program.{IsProgram, program_graph};
 ghost use Rattle.loop_shapes.specs.Rows.{rows};
 ghost use Rattle.loop_data.specs.Starts.{AreFromStarts};
 
+use crate::early::with_clean;
 use crate::levels::{judged, loop_at};
 use crate::line::line_of;
 use crate::listed::listed_rows;
@@ -106,10 +107,11 @@ fn shapes_of(
     requires count { length slots.old ≡ count_of (program_graph program.now) }
     ensures { IfOk result (λ v. AreLoops (program_graph program.now) v.items) }
 {
-    let numbers = numbers_of(alloc, &program.net)?;
+    let numbers = numbers_of(alloc, &program.net, program.next.as_slice())?;
     let mut others = PlaceSet::new(alloc, program.net.at.len())?;
     let shaped = shape_flags(alloc, program, slots, found, &mut others)?;
     let marks = marks_of(alloc, program, shaped.as_slice(), slots, found)?;
+    let marks = with_clean(alloc, program, marks, slots, found)?;
     let listed = listed_rows(alloc, program, numbers.as_slice())?;
     let mut all = Vec::new(alloc);
     for place in 0..program.net.at.len() {

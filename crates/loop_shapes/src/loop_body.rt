@@ -16,6 +16,8 @@ pub struct LoopBody<'a> {
     pub places: &'a [usize],
     /// For each place of a word where it stands among those places.
     pub slots: &'a [usize],
+    /// Whether it is known that the loop has no cycle but through back edges.
+    pub acyclic: bool,
 }
 
 impl LoopBody<'_> {

@@ -3,7 +3,8 @@ ghost use Rattle.std.specs.Prelude.{slice_index_or, false};
 ghost use Rattle.std.specs.List.{Contains};
 ghost use Rattle.loop_data.specs.Bodies.{IsHeader};
 ghost use Rattle.loop_shapes.specs.Kinds.{HasKind};
-ghost use Rattle.loop_shapes.specs.Marks.{IsUnsound, IsSet, AreMarks, ArePlacesShaped, lesser_of};
+ghost use Rattle.loop_shapes.specs.Marks.{AreMarks, ArePlacesShaped, lesser_of};
+ghost use Rattle.loop_shapes.specs.Outer.{AreKnown, IsSet, IsSound, IsUnsound};
 ghost use Rattle.loop_shapes.specs.Net.{IsNet, graph_of};
 ghost use Rattle.loop_shapes.specs.Places.{AreFlags, at, count_of};
 ghost use Rattle.loop_shapes.specs.Program.{IsProgram, program_graph};
@@ -12,6 +13,8 @@ ghost use Rattle.loop_data.specs.Shape.{IsShaped};
 
 use crate::kind::{Kind, has_kind};
 use crate::net::{Net, address_of};
+use crate::outer::{is_outer, is_under};
+use crate::places::unset_flags;
 use crate::program::{Program, find_body, is_header_at};
 use std::alloc::{AllocError, Global};
 
@@ -28,6 +31,8 @@ pub struct Marks {
     pub nothing: Vec<bool>,
     /// Whether a loop stands there that has not the shape.
     pub unsound: Vec<bool>,
+    /// Whether it is known that the loop there is clean: neither its words nor its inner loops decide a verdict.
+    pub clean: Vec<bool>,
 }
 
 // Which words do this.
@@ -99,6 +104,74 @@ fn is_unsound(
     Ok(has_unshaped(program, shaped, found))
 }
 
+// Whether an outermost loop stands at a place that has the shape.
+fn is_sound_outer(
+    program: &Program,
+    shaped: &[bool],
+    slots: &mut [usize],
+    found: &mut Vec<usize>,
+    place: usize,
+) -> Result<bool, AllocError>
+    requires program { IsProgram program.now }
+    requires flags { AreFlags (program_graph program.now) (IsShaped (program_graph program.now)) shaped.now }
+    requires count { length slots.old ≡ count_of (program_graph program.now) }
+    requires within { place < count_of (program_graph program.now) }
+    ensures { IfOk result (λ b. IsTrue b
+        → ¬ IsUnsound (program_graph program.now) (at (program_graph program.now) place)) }
+{
+    if !is_outer(program, place) {
+        return Ok(false);
+    }
+    if is_unsound(program, shaped, slots, found, place)? {
+        return Ok(false);
+    }
+    Ok(true)
+}
+
+// At which words outermost loops stand that have the shape.
+fn sound_flags(
+    alloc: Global,
+    program: &Program,
+    shaped: &[bool],
+    slots: &mut [usize],
+    found: &mut Vec<usize>,
+) -> Result<Vec<bool>, AllocError>
+    requires program { IsProgram program.now }
+    requires flags { AreFlags (program_graph program.now) (IsShaped (program_graph program.now)) shaped.now }
+    requires count { length slots.old ≡ count_of (program_graph program.now) }
+    ensures { IfOk result (λ v. AreKnown (program_graph program.now) (IsSound (program_graph program.now)) v.items) }
+{
+    let mut all = Vec::new(alloc);
+    for place in 0..program.net.at.len() {
+        all.push(is_sound_outer(program, shaped, slots, found, place)?)?;
+    }
+    Ok(all)
+}
+
+// Whether a loop that has not the shape stands at a place; where an outermost loop that has it lies round the
+// place, none does.
+fn is_unsound_in(
+    program: &Program,
+    shaped: &[bool],
+    sound: &[bool],
+    slots: &mut [usize],
+    found: &mut Vec<usize>,
+    place: usize,
+) -> Result<bool, AllocError>
+    requires program { IsProgram program.now }
+    requires flags { AreFlags (program_graph program.now) (IsShaped (program_graph program.now)) shaped.now }
+    requires sound { AreKnown (program_graph program.now) (IsSound (program_graph program.now)) sound.now }
+    requires count { length slots.old ≡ count_of (program_graph program.now) }
+    requires within { place < count_of (program_graph program.now) }
+    ensures { IfOk result (λ b. IsTrue b
+        ↔ IsUnsound (program_graph program.now) (at (program_graph program.now) place)) }
+{
+    if is_under(program, sound, place) {
+        return Ok(false);
+    }
+    is_unsound(program, shaped, slots, found, place)
+}
+
 // At which words loops stand that have not the shape.
 fn unsound_flags(
     alloc: Global,
@@ -112,14 +185,16 @@ fn unsound_flags(
     requires count { length slots.old ≡ count_of (program_graph program.now) }
     ensures { IfOk result (λ v. AreFlags (program_graph program.now) (IsUnsound (program_graph program.now)) v.items) }
 {
+    let sound = sound_flags(alloc, program, shaped, slots, found)?;
     let mut all = Vec::new(alloc);
     for place in 0..program.net.at.len() {
-        all.push(is_unsound(program, shaped, slots, found, place)?)?;
+        all.push(is_unsound_in(program, shaped, sound.as_slice(), slots, found, place)?)?;
     }
     Ok(all)
 }
 
-/// What is known of each word, from the loops that have the shape, whatever their inner loops have.
+/// What is known of each word, from the loops that have the shape, whatever their inner loops have; it is
+/// not known yet which loops are clean.
 pub fn marks_of(
     alloc: Global,
     program: &Program,
@@ -139,6 +214,7 @@ pub fn marks_of(
         jumps: kind_flags(alloc, net, Kind::JumpsAnywhere)?,
         nothing: kind_flags(alloc, net, Kind::IsNothing)?,
         unsound: unsound_flags(alloc, program, shaped, slots, found)?,
+        clean: unset_flags(alloc, net.at.len())?,
     })
 }
 

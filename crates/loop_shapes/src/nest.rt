@@ -5,6 +5,7 @@ ghost use Rattle.loop_data.specs.Early.{IsRound, IsSmallNest};
 ghost use Rattle.loop_shapes.specs.Gains.{Gained, HasAll};
 ghost use Rattle.loop_shapes.specs.Net.{AreAt};
 ghost use Rattle.loop_shapes.specs.Nested.{HasTriedHeader};
+ghost use Rattle.loop_shapes.specs.Outer.{AreKnown, IsAcyclic};
 ghost use Rattle.loop_shapes.specs.PlaceSet.{IsPlaceSet};
 ghost use Rattle.loop_shapes.specs.Places.{AreFlags, at, count_of};
 ghost use Rattle.loop_shapes.specs.Program.{IsProgram, program_graph};
@@ -14,13 +15,14 @@ ghost use Rattle.loop_data.specs.Shape.{IsShaped, InNest};
 
 use crate::body::in_order;
 use crate::net::address_of;
+use crate::outer::{is_outer, is_under};
 use crate::place_set::PlaceSet;
 use crate::program::{Program, body_at, find_body, is_among, is_header_at};
-use crate::shape::own_shape_at;
+use crate::shape::{is_acyclic_at, own_shape_at};
 use std::alloc::{AllocError, Global};
 
-// Whether the loop at a place has the shape, whatever its inner loops have.
-fn is_shaped(
+// Whether an outermost loop stands at a place that has no cycle but through back edges.
+fn is_acyclic_outer(
     program: &Program,
     slots: &mut [usize],
     found: &mut Vec<usize>,
@@ -30,6 +32,55 @@ fn is_shaped(
     requires program { IsProgram program.now }
     requires count { length slots.old ≡ count_of (program_graph program.now) }
     requires others { IsPlaceSet (count_of (program_graph program.now)) others.old }
+    requires within { place < count_of (program_graph program.now) }
+    ensures acyclic { IfOk result (λ b. IsTrue b
+        → IsAcyclic (program_graph program.now) (at (program_graph program.now) place)) }
+    ensures others { OnOk result (IsPlaceSet (count_of (program_graph program.now)) others.new) }
+{
+    if !is_outer(program, place) {
+        return Ok(false);
+    }
+    if !find_body(program, slots, found, place)? {
+        return Ok(false);
+    }
+    let acyclic = is_acyclic_at(program, slots, found, others, place)?;
+    Ok(acyclic)
+}
+
+// At which words outermost loops stand that have no cycle but through back edges.
+fn acyclic_flags(
+    alloc: Global,
+    program: &Program,
+    slots: &mut [usize],
+    found: &mut Vec<usize>,
+    others: &mut PlaceSet,
+) -> Result<Vec<bool>, AllocError>
+    requires program { IsProgram program.now }
+    requires count { length slots.old ≡ count_of (program_graph program.now) }
+    requires others { IsPlaceSet (count_of (program_graph program.now)) others.old }
+    ensures flags { IfOk result (λ v. AreKnown (program_graph program.now) (IsAcyclic (program_graph program.now)) v.items) }
+    ensures others { OnOk result (IsPlaceSet (count_of (program_graph program.now)) others.new) }
+{
+    let mut all = Vec::new(alloc);
+    for place in 0..program.net.at.len() {
+        all.push(is_acyclic_outer(program, slots, found, others, place)?)?;
+    }
+    Ok(all)
+}
+
+// Whether the loop at a place has the shape, whatever its inner loops have.
+fn is_shaped(
+    program: &Program,
+    slots: &mut [usize],
+    found: &mut Vec<usize>,
+    others: &mut PlaceSet,
+    acyclic: &[bool],
+    place: usize,
+) -> Result<bool, AllocError>
+    requires program { IsProgram program.now }
+    requires count { length slots.old ≡ count_of (program_graph program.now) }
+    requires others { IsPlaceSet (count_of (program_graph program.now)) others.old }
+    requires acyclic { AreKnown (program_graph program.now) (IsAcyclic (program_graph program.now)) acyclic.now }
     requires within { place < count_of (program_graph program.now) }
     ensures shaped { IfOk result (λ b. IsTrue b
         ↔ IsShaped (program_graph program.now) (at (program_graph program.now) place)) }
@@ -41,7 +92,8 @@ fn is_shaped(
     if !find_body(program, slots, found, place)? {
         return Ok(false);
     }
-    match own_shape_at(program, slots, found, others, place)? {
+    let known = is_under(program, acyclic, place);
+    match own_shape_at(program, slots, found, others, known, place)? {
         Some(_) => Ok(true),
         None => Ok(false),
     }
@@ -62,9 +114,10 @@ pub fn shape_flags(
         (IsShaped (program_graph program.now)) v.items) }
     ensures others { OnOk result (IsPlaceSet (count_of (program_graph program.now)) others.new) }
 {
+    let acyclic = acyclic_flags(alloc, program, slots, found, others)?;
     let mut all = Vec::new(alloc);
     for place in 0..program.net.at.len() {
-        all.push(is_shaped(program, slots, found, others, place)?)?;
+        all.push(is_shaped(program, slots, found, others, acyclic.as_slice(), place)?)?;
     }
     Ok(all)
 }

@@ -104,13 +104,13 @@ pub fn astray_flags(alloc: Global, net: &Net) -> Result<Vec<bool>, AllocError>
     Ok(all)
 }
 
-/// Numbers for the words of which each is reached from the other.
-pub fn numbers_of(alloc: Global, net: &Net) -> Result<Vec<u32>, AllocError>
+/// Numbers for the words of which each is reached from the other, from where the step edges lead.
+pub fn numbers_of(alloc: Global, net: &Net, steps: &[Successors]) -> Result<Vec<u32>, AllocError>
     requires net { IsNet net.now }
     requires few { count_of (graph_of net.now) < 2 ^ 32 }
+    requires steps { AreNodes (graph_of net.now) steps.now }
     ensures { IfOk result (λ v. AreNumbers (graph_of net.now) v.items) }
 {
-    let graph = nodes(alloc, net)?;
-    let all = components(alloc, graph.as_slice())?;
+    let all = components(alloc, steps)?;
     Ok(all)
 }

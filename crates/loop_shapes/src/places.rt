@@ -143,8 +143,8 @@ fn mark_all(flags: &mut [bool], at: &[u64], graph: &Graph, xs: &[u64])
     }
 }
 
-// Flags that are not set.
-fn unset_flags(alloc: Global, count: usize) -> Result<Vec<bool>, AllocError>
+/// Flags that are not set.
+pub fn unset_flags(alloc: Global, count: usize) -> Result<Vec<bool>, AllocError>
     ensures { IfOk result (λ v. v.items ≡ replicate count false) }
 {
     let mut all = Vec::with_capacity(alloc, count)?;

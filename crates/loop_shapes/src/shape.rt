@@ -4,6 +4,7 @@ ghost use Rattle.loop_data.specs.Bodies.{IsClosed, InBody};
 ghost use Rattle.loop_data.specs.Shape.{IsExitBranch, IsOneExit, IsShaped, IsSide};
 ghost use Rattle.loop_shapes.specs.LoopBody.{IsLoopBody, IsLeftOnlyFrom, HasOwnShapeAt, body_graph, header_of};
 ghost use Rattle.loop_shapes.specs.Net.{AreAt};
+ghost use Rattle.loop_shapes.specs.Outer.{IsAcyclic};
 ghost use Rattle.loop_shapes.specs.PlaceSet.{IsPlaceSet};
 ghost use Rattle.loop_shapes.specs.Places.{at, count_of};
 ghost use Rattle.loop_shapes.specs.Program.{IsProgram, program_graph};
@@ -79,12 +80,14 @@ fn own_shape(body: &LoopBody, others: &mut PlaceSet) -> Result<Option<(usize, us
 }
 
 /// The places of the source of the back edge and of the exit branch of the loop at a place, where it has the
-/// shape, whatever its inner loops have; from the places of its words.
+/// shape, whatever its inner loops have; from the places of its words, and whether it is known that it has no
+/// cycle but through back edges.
 pub fn own_shape_at(
     program: &Program,
     slots: &[usize],
     places: &[usize],
     others: &mut PlaceSet,
+    acyclic: bool,
     header: usize,
 ) -> Result<Option<(usize, usize)>, AllocError>
     requires program { IsProgram program.now }
@@ -94,6 +97,7 @@ pub fn own_shape_at(
     requires header { header < count_of (program_graph program.now) }
     requires words { AreAt (program_graph program.now)
         (InBody (program_graph program.now) (at (program_graph program.now) header)) places.now }
+    requires known { IsTrue acyclic → IsAcyclic (program_graph program.now) (at (program_graph program.now) header) }
     requires others { IsPlaceSet (count_of (program_graph program.now)) others.old }
     ensures shape { IfOk result (λ o. MatchOption o
         (¬ IsShaped (program_graph program.now) (at (program_graph program.now) header))
@@ -105,6 +109,37 @@ pub fn own_shape_at(
         header,
         places,
         slots,
+        acyclic,
     };
     own_shape(&body, others)
+}
+
+/// Whether the loop at a place has no cycle but through back edges, from the places of its words.
+pub fn is_acyclic_at(
+    program: &Program,
+    slots: &[usize],
+    places: &[usize],
+    others: &mut PlaceSet,
+    header: usize,
+) -> Result<bool, AllocError>
+    requires program { IsProgram program.now }
+    requires count { length slots.now ≡ count_of (program_graph program.now) }
+    requires indexed { IsIndexed places.now slots.now }
+    requires short { length places.now ≤ 256 }
+    requires header { header < count_of (program_graph program.now) }
+    requires words { AreAt (program_graph program.now)
+        (InBody (program_graph program.now) (at (program_graph program.now) header)) places.now }
+    requires others { IsPlaceSet (count_of (program_graph program.now)) others.old }
+    ensures acyclic { IfOk result (λ b. IsTrue b
+        ↔ IsAcyclic (program_graph program.now) (at (program_graph program.now) header)) }
+    ensures others { OnOk result (IsPlaceSet (count_of (program_graph program.now)) others.new) }
+{
+    let body = LoopBody {
+        program,
+        header,
+        places,
+        slots,
+        acyclic: false,
+    };
+    is_acyclic(&body, others)
 }

@@ -13,6 +13,9 @@ use Rattle.loop_shapes.proofs.Rounds.{same_test}
 use Rattle.loop_shapes.proofs.Searches.{apart_from_indexed}
 use Rattle.loop_shapes.proofs.cycles.is_acyclic.Goals as goal
 
+pub returns-then-body-clause-acyclic : goal.returns-then-body-clause-acyclic
+returns-then-body-clause-acyclic c = (λ _. c.requires.body.known c.if-body.true, λ _. refl)
+
 pub take_out_all-requires-clause-within : goal.take_out_all-requires-clause-within
 take_out_all-requires-clause-within c i m = (c.requires.body.words.each i m).0
 

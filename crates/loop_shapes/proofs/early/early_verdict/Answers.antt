@@ -21,6 +21,9 @@ first_flagged-requires-4-clause-each c i m = (c.requires.body.each i m).0
 pub first_flagged-requires-5-clause-each : goal.first_flagged-requires-5-clause-each
 first_flagged-requires-5-clause-each c i m = (c.requires.body.each i m).0
 
+pub returns-then-clean : goal.returns-then-clean
+returns-then-clean c = let k = c.requires.clean c.if-clean.true in (k.plain, k.shaped)
+
 pub returns-in-Some : goal.returns-in-Some
 returns-in-Some c =
     let G = graph_of c.args.net.now in

@@ -8,11 +8,13 @@ use Rattle.loop_data.specs.Bodies.{IsHeader, InBody}
 use Rattle.loop_shapes.specs.Gains.{HasAll}
 use Rattle.loop_data.specs.Loops.{AreLevels}
 use Rattle.loop_shapes.specs.Net.{AreAt}
+use Rattle.loop_shapes.specs.Outer.{IsClean}
 use Rattle.loop_shapes.specs.Places.{at}
 use Rattle.loop_shapes.specs.Program.{program_graph}
 use Rattle.loop_data.specs.Sets.{IsListOf, HasAtMost}
 use Rattle.loop_data.specs.Shape.{InNest}
 use Rattle.loop_shapes.proofs.Answered.{passed, failed, at_some, at_none}
+use Rattle.loop_shapes.proofs.Flagged.{short_by}
 use Rattle.loop_shapes.proofs.Headers.{nest_in_order}
 use Rattle.loop_shapes.proofs.LevelLists.{limit_loop, sound_loop}
 use Rattle.loop_shapes.proofs.Unsound.{body_there}
@@ -103,3 +105,10 @@ returns-clause-is c =
     let all = at_some (¬ HasAtMost 4 (InNest G h)) (λ (v : Vec ℕ Global). HasAll (InNest G h) v.items) c.in_ok-headers.field-0 c.in-Some-2.headers c.in-Some-2.is (c.in_ok-headers.ensures h body) in
     let nest = nest_in_order G h c.in-Some-2.headers.items c.in_order-nest.result.items all c.in_order-nest.ensures in
     sound_loop G h _ own refl refl (subst (AreLevels G h) (sym c.new.ensures) c.in_ok-levels.ensures.levels) c.in_default.ensures (passed c.in_ok-is_small_nest.field-0 (c.in_ok-is_small_nest.ensures h (subst (IsListOf (InNest G h)) (sym c.as_slice.ensures.value) nest)) c.if-not-branch-2.false)
+
+pub early_verdict-requires-clause-clean : goal.early_verdict-requires-clause-clean
+early_verdict-requires-clause-clean c t =
+    let G = program_graph c.args.program.now in
+    let x = at G c.args.place in
+    let there = body_there c.in_ok-find_body.field-0 G x c.find_body.new.found.items c.if-not-branch.false c.in_ok-find_body.ensures.body in
+    subst (IsClean G) (sym c.address_of-header.ensures) (c.is_clean-clean.ensures t c.requires.header (short_by G (InBody G x) c.find_body.new.found.items there.1 there.0))

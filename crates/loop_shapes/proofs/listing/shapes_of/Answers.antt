@@ -1,9 +1,13 @@
 use Rattle.std.proofs.Common.{◌≤◌, length, ap, sym, subst, arith}
 use Rattle.loop_shapes.specs.Below.{AreLoopsBelow}
+use Rattle.loop_shapes.specs.Numbers.{AreNodes}
 use Rattle.loop_shapes.specs.Places.{count_of}
 use Rattle.loop_shapes.specs.Program.{program_graph}
 use Rattle.loop_shapes.proofs.Listings.{below_none, below_all}
 use Rattle.loop_shapes.proofs.listing.shapes_of.Goals as goal
+
+pub numbers_of-requires-clause-steps : goal.numbers_of-requires-clause-steps
+numbers_of-requires-clause-steps c = subst (AreNodes (program_graph c.args.program.now)) (sym c.as_slice.ensures.value) c.requires.program.next
 
 pub loop-place-init : goal.loop-place-init
 loop-place-init c =

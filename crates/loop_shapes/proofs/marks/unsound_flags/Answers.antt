@@ -1,5 +1,5 @@
 use Rattle.std.proofs.Common.{◌≡◌, ◌<◌, ℕ, length, ap, sym, ◌∙◌, subst, arith}
-use Rattle.loop_shapes.specs.Marks.{IsUnsound}
+use Rattle.loop_shapes.specs.Outer.{IsUnsound}
 use Rattle.loop_shapes.specs.Places.{at, count_of}
 use Rattle.loop_shapes.specs.Program.{program_graph}
 use Rattle.loop_shapes.proofs.Nests.{flags_push}
@@ -8,7 +8,7 @@ use Rattle.loop_shapes.proofs.marks.unsound_flags.Goals as goal
 pub loop-place-preserved : goal.loop-place-preserved
 loop-place-preserved c =
     let G = program_graph c.args.program.now in
-    flags_push (λ i. IsUnsound G (at G i)) c.loop-place.all.items c.in_ok-is_unsound.field-0 c.loop-place.place c.push.new.self.items c.in_ok-push.ensures.items c.loop-place.invariant c.in_ok-is_unsound.ensures
+    flags_push (λ i. IsUnsound G (at G i)) c.loop-place.all.items c.in_ok-is_unsound_in.field-0 c.loop-place.place c.push.new.self.items c.in_ok-push.ensures.items c.loop-place.invariant c.in_ok-is_unsound_in.ensures
 
 pub returns : goal.returns
 returns c =

@@ -1,5 +1,5 @@
 use Rattle.std.proofs.Common.{◌≡◌, ◌↔◌, ℕ, ◌<◌, true, false, length, get_or}
-use Rattle.loop_shapes.specs.Marks.{IsUnsound}
+use Rattle.loop_shapes.specs.Outer.{IsUnsound}
 use Rattle.loop_shapes.specs.Places.{at}
 use Rattle.loop_shapes.specs.Program.{program_graph}
 use Rattle.loop_shapes.proofs.marks.unsound_flags.Given as goal

@@ -8,6 +8,7 @@ use Rattle.loop_shapes.specs.Net.{AreAt}
 use Rattle.loop_shapes.specs.Places.{at}
 use Rattle.loop_shapes.specs.Program.{program_graph}
 use Rattle.loop_shapes.proofs.Answered.{at_some, at_none}
+use Rattle.loop_shapes.proofs.OuterLoops.{under_acyclic}
 use Rattle.loop_shapes.proofs.Unsound.{shaped_small, body_there, body_large}
 use Rattle.loop_shapes.proofs.nest.is_shaped.Goals as goal
 
@@ -20,3 +21,8 @@ returns-then-not-branch-clause-shaped c =
     let x = at G c.args.place in
     let large = body_large c.in_ok-find_body.field-0 G x c.find_body.new.found.items c.if-not-branch.true c.in_ok-find_body.ensures.body in
     (λ t. absurd (false≢true t), λ s. absurd (large (shaped_small G x s)))
+
+pub own_shape_at-requires-clause-known : goal.own_shape_at-requires-clause-known
+own_shape_at-requires-clause-known c t =
+    let G = program_graph c.args.program.now in
+    under_acyclic G c.requires.program.net.from_starts c.args.acyclic.now (at G c.args.place) (c.is_under-known.ensures t) c.requires.acyclic
