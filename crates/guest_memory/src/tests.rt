@@ -194,3 +194,38 @@ fn buffers_span_areas(rt: HostRuntime) -> Result<(), Fail> {
     assert_eq!(rt; memory.word(0x10010), Some(0x04_0302_0107));
     Ok(())
 }
+
+// Data from 0x10003 on, of seven bytes of which the file has five, and code behind it.
+fn uneven(alloc: Global) -> Result<Elf, AllocError>
+    ensures { IfOk result (λ elf. IsLoadable elf) }
+{
+    let mut segments = Vec::new(alloc);
+    segments.push(segment(alloc, 0x10003, 5, 7, 6)?)?;
+    segments.push(segment(alloc, 0x10018, 8, 8, 5)?)?;
+    Ok(Elf {
+        entry: 0x10018,
+        segments: Segments::new(segments),
+    })
+}
+
+#[test]
+fn bytes_round_a_segment_are_zero(rt: HostRuntime) -> Result<(), Fail> {
+    let elf = uneven(rt.alloc())?;
+    let mut memory = build(rt.alloc(), &elf)?;
+    for (addr, width, want) in [
+        (0xFFFF, Width::One, Err(MemFault::Unmapped)),
+        (0x10000, Width::Eight, Ok(0x0403_0201_0000_0000)),
+        (0x10002, Width::One, Ok(0)),
+        (0x10007, Width::One, Ok(4)),
+        (0x10008, Width::Eight, Ok(0)),
+        (0x1000F, Width::One, Ok(0)),
+        (0x10010, Width::One, Err(MemFault::Unmapped)),
+    ] {
+        assert_eq!(rt; memory.peek(addr, width), want, "at {addr:#x}");
+    }
+    assert!(rt; memory.can_read(0x10000, 16) && memory.can_write(0x10000, 16));
+    assert!(rt; !memory.can_read(0xFFFF, 17) && !memory.can_write(0x10000, 17));
+    assert!(rt; set_bytes(&mut memory, 0x10001, &[9, 8, 7]));
+    assert_eq!(rt; memory.word(0x10000), Some(0x0403_0201_0708_0900));
+    Ok(())
+}
