@@ -280,3 +280,44 @@ fn ends_outside_code_and_by_the_sink(rt: HostRuntime) -> Result<(), Fail> {
     assert!(rt; out.bytes() == b"hel".as_slice());
     Ok(())
 }
+
+// lui x5, 0x20; ld x6, 0(x5); ld x7, 8(x5); ld x8, 16(x5), beside a segment of six bytes from 0x20005 on,
+// of which the file has four.
+#[test]
+fn bytes_round_a_segment_are_read_as_zero(rt: HostRuntime) -> Result<(), Fail> {
+    let code = code_of([0x0002_02B7, 0x0002_B303, 0x0082_B383, 0x0102_B403]);
+    let mut segments = Vec::new(rt.alloc());
+    segments.push(Segment {
+        index: 0,
+        vaddr: 0x10000,
+        memsz: 16,
+        flags: 5,
+        bytes: Bytes::new(code.to_vec(rt.alloc())?),
+    })?;
+    segments.push(Segment {
+        index: 1,
+        vaddr: 0x20005,
+        memsz: 6,
+        flags: 6,
+        bytes: Bytes::new(vec![in rt.alloc(); 0xA1, 0xA2, 0xA3, 0xA4]?),
+    })?;
+    let elf = Elf {
+        entry: 0x10000,
+        segments: Segments::new(segments),
+    };
+    let mut m = start(rt.alloc(), &elf)?;
+    let mut input = MemSource::new(Vec::new(rt.alloc()), 1, Vec::new(rt.alloc()));
+    let mut out = MemSink::new(rt.alloc(), 0, Vec::new(rt.alloc()))?;
+    let end = End::Faulted {
+        kind: Fault::Load(MemFault::Unmapped),
+        pc: 0x1000C,
+        addr: 0x20010,
+    };
+    assert_eq!(rt;
+        run_counted(&mut m, 9, &mut input, &mut out),
+        Ran { end, steps: 4 }
+    );
+    assert_eq!(rt; m.regs.get(Reg::new(6)), 0xA3A2_A100_0000_0000);
+    assert_eq!(rt; m.regs.get(Reg::new(7)), 0xA4);
+    Ok(())
+}
