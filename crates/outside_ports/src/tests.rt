@@ -1,5 +1,6 @@
 ghost use Rattle.std.specs.Prelude.{◌≡◌, IfOk};
 
+use crate::replacing::replacing_mode;
 use crate::{
     ErrSink, Failed, FileStore, Gate, MemSink, MemSource, MemStore, NoGate, SaveErr, Sink, Source,
     StdSink, StdSource, Store, StoreErr,
@@ -316,6 +317,32 @@ fn saving_follows_links_and_keeps_modes(rt: HostRuntime) -> Result<(), Fail> {
     let mode = fs::metadata(&rt, real.as_path())?.permissions().mode();
     assert!(rt; mode & 0o777 == 0o640);
     assert!(rt; names_in(&rt, &folder)? == 6);
+    fs::remove_dir_all(&rt, folder.as_path())?;
+    Ok(())
+}
+
+// A program that is set to run as its file's owner or group does so no more where these are not kept.
+#[test]
+fn foreign_files_lose_their_set_id_bits(rt: HostRuntime) -> Result<(), Fail> {
+    for (mode, owned, want) in [
+        (0o100_755, true, 0o100_755),
+        (0o104_755, true, 0o104_755),
+        (0o106_711, true, 0o106_711),
+        (0o100_755, false, 0o100_755),
+        (0o104_755, false, 0o100_755),
+        (0o102_750, false, 0o100_750),
+        (0o107_777, false, 0o101_777),
+    ] {
+        assert!(rt; replacing_mode(mode, owned) == want, "{mode:#x}");
+    }
+    let folder = fresh_folder(&rt)?;
+    let path = within(&rt, &folder, "own")?;
+    fs::write(&rt, path.as_path(), b"old".as_slice())?;
+    rt.set_permissions(path.as_path().as_str(), Permissions::from_mode(0o4755))?;
+    let mut files = FileStore::new(&rt);
+    assert!(rt; files.save(rt.alloc(), path.as_path().as_str(), b"new") == Ok(()));
+    let mode = fs::metadata(&rt, path.as_path())?.permissions().mode();
+    assert!(rt; mode & 0o7777 == 0o4755);
     fs::remove_dir_all(&rt, folder.as_path())?;
     Ok(())
 }
