@@ -39,7 +39,8 @@ pub record IsCarried (N : Nest) (B : LoopCode) (V : FactsOf) (r : ℕ) : Type 0 
 abbrev pub HasRole : Nest → LoopCode → FactsOf → ℕ → Role → Type 0
 HasRole N B V r Keeps = IsUnwritten B N.root r
 HasRole N B V r (Moves step) = IsInduction N B V N.root r step
-HasRole N B V r Private = IsWritten B N.root r × ((step : ℤ) → ¬ IsInduction N B V N.root r step) × IsPrivate N B r
+HasRole N B V r Private =
+    IsWritten B N.root r × ((step : ℤ) → ¬ IsInduction N B V N.root r step) × IsPrivate N B r
 
 -- what an inner loop does to a location: here Private stands for all other ways in which it writes it
 abbrev pub HasInnerRole : Nest → LoopCode → FactsOf → Level → ℕ → Role → Type 0

@@ -34,7 +34,8 @@ abbrev pub Carries : Nest → ℕ → ℕ → LinearForm → Type 0
 Carries N u v f = (l : Level) → Among N l → Holds l u → has l.body v ≡ false → stride f l.depth ≡ pos 0
 
 -- the form stands at v after the word at u
-pub record Arrives (N : Nest) (B : LoopCode) (at : ℕ → ℕ → Option LinearForm) (u v r : ℕ) (f : LinearForm) : Type 0 where
+pub record Arrives (N : Nest) (B : LoopCode) (at : ℕ → ℕ → Option LinearForm) (u v r : ℕ) (f : LinearForm)
+    : Type 0 where
   pub after : form_after B u (at u) r ≡ Some f
   pub carries : Carries N u v f
 
@@ -48,15 +49,19 @@ HeadsNone N v = (l : Level) → Among N l → v ≢ l.header
 
 -- the forms at each word of the nest, before it, where the loops do this to the locations: at the root's
 -- header by the entry values, at an inner header by what comes from outside, and elsewhere by what meets
-pub record AreForms (N : Nest) (B : LoopCode) (roles : Level → ℕ → Role) (at : ℕ → ℕ → Option LinearForm) : Type 0 where
+pub record AreForms (N : Nest) (B : LoopCode) (roles : Level → ℕ → Role) (at : ℕ → ℕ → Option LinearForm)
+    : Type 0 where
   pub outside : Level → ℕ → Option LinearForm
   pub root : (r : ℕ) → at N.root.header r ≡ header_form 0 (roles N.root r) (entry_form B r)
-  pub inner : (l : Level) → In N.inner l → (r : ℕ) → at l.header r ≡ header_form l.depth (roles l r) (outside l r)
+  pub inner : (l : Level) → In N.inner l → (r : ℕ)
+      → at l.header r ≡ header_form l.depth (roles l r) (outside l r)
   pub entering : (l : Level) → In N.inner l → (r : ℕ) (f : LinearForm)
       → (outside l r ≡ Some f) ↔ Meets N B at l.header r f
-  pub met : (v r : ℕ) (f : LinearForm) → Holds N.root v → HeadsNone N v → (at v r ≡ Some f) ↔ Meets N B at v r f
+  pub met : (v r : ℕ) (f : LinearForm) → Holds N.root v → HeadsNone N v
+      → (at v r ≡ Some f) ↔ Meets N B at v r f
 
 -- an induction of the loop l is written with its header's form and the step
-pub record IsConfirmed (N : Nest) (B : LoopCode) (roles : Level → ℕ → Role) (at : ℕ → ℕ → Option LinearForm) (l : Level) (r : ℕ) : Type 0 where
+pub record IsConfirmed (N : Nest) (B : LoopCode) (roles : Level → ℕ → Role) (at : ℕ → ℕ → Option LinearForm)
+    (l : Level) (r : ℕ) : Type 0 where
   pub by : (u : ℕ) (step : ℤ) (f : LinearForm) → roles l r ≡ Moves step → Holds l u → writes B u r ≡ true
       → at l.header r ≡ Some f → form_after B u (at u) r ≡ Some (plus_constant f step)

@@ -43,7 +43,8 @@ pub record Added (body : List ℕ) (from : ℕ) (P : ℕ → Type 0) (old new : 
   pub every : (j : ℕ) → j < length body → P (at body j) → Contains (row_at new j) from
 
 -- each row has the places below i of the words from which such an edge leads to the word at its place
-pub record HasSources (G : Graph) (levels : List Level) (body : List ℕ) (i : ℕ) (rows : List (List ℕ)) : Type 0 where
+pub record HasSources (G : Graph) (levels : List Level) (body : List ℕ) (i : ℕ) (rows : List (List ℕ))
+    : Type 0 where
   pub count : length rows ≡ length body
   pub each : (j k : ℕ) → Contains (row_at rows j) k
       → (k < i) × (j < length body) × IsOpenEdge G levels (at body k) (at body j)
@@ -99,7 +100,8 @@ AreSetBelow rows rank n flags = (q : ℕ) → q < length rows → rank q < n →
 pub record IsSweep (rows : List (List ℕ)) (p : ℕ) (old new : List Bool) (whole : Bool) : Type 0 where
   pub kept : (q : ℕ) → IsSet old q → IsSet new q
   pub all : whole ≡ true → (q : ℕ) → q < p → IsSet new q
-  pub ready : (rank : ℕ → ℕ) (n q : ℕ) → IsRowRank rows rank → AreSetBelow rows rank n old → q < p → rank q < n + 1 → IsSet new q
+  pub ready : (rank : ℕ → ℕ) (n q : ℕ) → IsRowRank rows rank → AreSetBelow rows rank n old → q < p
+      → rank q < n + 1 → IsSet new q
 
 -- the words of a body, with their edges and an order along these
 pub record IsFlow (G : Graph) (levels : List Level) (body : List ℕ) (f : Flow) : Type 0 where

@@ -29,13 +29,15 @@ pub record IsNestOf (G : Graph) (levels : List Level) (N : Nest) : Type 0 where
   pub is : N ≡ nest_of G root inner
 
 -- the facts at each word of the loop at a place among the levels
-pub record AreFactsOf (G : Graph) (levels : List Level) (C : CellMap) (level : ℕ) (values : List Values) : Type 0 where
+pub record AreFactsOf (G : Graph) (levels : List Level) (C : CellMap) (level : ℕ) (values : List Values)
+    : Type 0 where
   pub words : (l : Level) → slice_index_or levels level l ≡ l → map (λ (v : Values). v.at) values ≡ l.body
   pub facts : (N : Nest) (l : Level) → IsNestOf G levels N → slice_index_or levels level l ≡ l
       → AreFacts N (code_of G C) l (fact_at values)
 
 -- an induction of some loop is written with another form than its header's and the step
-pub record IsUnconfirmed (N : Nest) (B : LoopCode) (roles : Level → ℕ → Role) (at : ℕ → ℕ → Option LinearForm) (r : ℕ) : Type 0 where
+pub record IsUnconfirmed (N : Nest) (B : LoopCode) (roles : Level → ℕ → Role) (at : ℕ → ℕ → Option LinearForm)
+    (r : ℕ) : Type 0 where
   pub loop : Level
   pub among : Among N loop
   pub word : ℕ
@@ -63,28 +65,33 @@ pub record IsInnermost (levels : List Level) (u level : ℕ) : Type 0 where
 -- the loop of a depth round the word stands at this place, or there is none and the place is 0
 abbrev pub IsAround : List Level → ℕ → ℕ → ℕ → Type 0
 IsAround levels u depth place =
-    ((l : Level) × (place < length levels) × (slice_index_or levels place l ≡ l) × Holds l u × (l.depth ≡ depth))
+    ((l : Level) × (place < length levels) × (slice_index_or levels place l ≡ l) × Holds l u
+    × (l.depth ≡ depth))
     ⊎ (((l : Level) → Contains levels l → l.depth ≡ depth → ¬ Holds l u) × (place ≡ 0))
 
 -- a duty of the word at its address
-pub record IsDuty (levels : List Level) (B : LoopCode) (at : ℕ → ℕ → Option LinearForm) (d : Duty) : Type 0 where
+pub record IsDuty (levels : List Level) (B : LoopCode) (at : ℕ → ℕ → Option LinearForm) (d : Duty)
+    : Type 0 where
   pub form : duty B d.at (at d.at) ≡ Some d.form
   pub innermost : IsInnermost levels d.at d.level
   pub around : (k : ℕ) → k < 3 → IsAround levels d.at k (slice_index d.around k)
 
 -- the duties of the words of a body, in address order
-pub record AreDuties (levels : List Level) (body : List ℕ) (B : LoopCode) (at : ℕ → ℕ → Option LinearForm) (duties : List Duty) : Type 0 where
+pub record AreDuties (levels : List Level) (body : List ℕ) (B : LoopCode) (at : ℕ → ℕ → Option LinearForm)
+    (duties : List Duty) : Type 0 where
   pub ordered : IsStrictlyIncreasing (map (λ (d : Duty). d.at) duties)
   pub each : (d : Duty) → Contains duties d → Contains body d.at × IsDuty levels B at d
   pub every : (u : ℕ) (f : LinearForm) → Contains body u → duty B u (at u) ≡ Some f
       → Contains (map (λ (d : Duty). d.at) duties) u
 
 -- the forms at each word, with what they owe and the least induction that they do not confirm
-pub record AreEquations (G : Graph) (levels : List Level) (C : CellMap) (classes : Classes) (e : Equations) : Type 0 where
+pub record AreEquations (G : Graph) (levels : List Level) (C : CellMap) (classes : Classes) (e : Equations)
+    : Type 0 where
   pub words : (N : Nest) → IsNestOf G levels N → map (λ (p : Point). p.at) e.points ≡ N.root.body
   pub forms : (N : Nest) → IsNestOf G levels N
       → AreForms N (code_of G C) (roles_by (code_of G C) levels classes) (form_at e.points)
   pub duties : (N : Nest) → IsNestOf G levels N
       → AreDuties levels N.root.body (code_of G C) (form_at e.points) e.duties
   pub unconfirmed : (N : Nest) → IsNestOf G levels N
-      → IsLeastLocation (IsUnconfirmed N (code_of G C) (roles_by (code_of G C) levels classes) (form_at e.points)) e.unconfirmed
+      → IsLeastLocation
+      (IsUnconfirmed N (code_of G C) (roles_by (code_of G C) levels classes) (form_at e.points)) e.unconfirmed

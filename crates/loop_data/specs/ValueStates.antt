@@ -36,7 +36,8 @@ IsInnerFact false instrs points sources r fact =
     (x : Fact) → (fact ≡ Some x) ↔ ((k : ℕ) → Contains sources k → past instrs points k r ≡ Some x)
 
 -- the values are those of the word v at place p, out of the values at its sources
-pub record IsState (B : LoopCode) (levels : List Level) (header : ℕ) (rows : List (List ℕ)) (instrs : List (Option Instr)) (points : List Values) (p v : ℕ) (state : List Value) : Type 0 where
+pub record IsState (B : LoopCode) (levels : List Level) (header : ℕ) (rows : List (List ℕ))
+    (instrs : List (Option Instr)) (points : List Values) (p v : ℕ) (state : List Value) : Type 0 where
   pub first : v ≡ header → (r : ℕ) → r < 48 → fact_in state r ≡ header_fact B r
   pub other : v ≢ header → (r : ℕ) → r < 48
       → IsInnerFact (lost_by B levels v r) instrs points (row_at rows p) r (fact_in state r)
@@ -47,7 +48,8 @@ IsPlace B levels header rows instrs points p =
     IsState B levels header rows instrs points p (values_at points p).at (values_at points p).of
 
 -- the new points are the old ones with other values at place p, which are right
-pub record IsSetAt (B : LoopCode) (levels : List Level) (header : ℕ) (rows : List (List ℕ)) (instrs : List (Option Instr)) (p : ℕ) (old new : List Values) : Type 0 where
+pub record IsSetAt (B : LoopCode) (levels : List Level) (header : ℕ) (rows : List (List ℕ))
+    (instrs : List (Option Instr)) (p : ℕ) (old new : List Values) : Type 0 where
   pub state : List Value
   pub right : IsState B levels header rows instrs old p (values_at old p).at state
   pub is : new ≡ slice_set old p (record { at = (values_at old p).at; of = state })

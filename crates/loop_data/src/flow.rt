@@ -107,7 +107,8 @@ fn closes(levels: &[Level], u: u64, v: u64) -> bool
 /// Puts a number at the end of a row.
 fn add(sources: &mut [Vec<usize>], to: usize, from: usize) -> Result<(), AllocError>
     requires { to < length sources.old }
-    ensures ok { OnOk result (rows sources.new ≡ slice_set (rows sources.old) to (row_at (rows sources.old) to ++ from ∷ [])) }
+    ensures ok { OnOk result (rows sources.new
+        ≡ slice_set (rows sources.old) to (row_at (rows sources.old) to ++ from ∷ [])) }
 {
     sources[to].push(from)?;
     Ok(())
@@ -125,7 +126,9 @@ fn add_step(
     requires levels { All (λ l. IsStrictlyIncreasing l.body) levels.now }
     requires count { length sources.old ≡ length body.now }
     requires within { from < length body.now }
-    ensures { OnOk result (Added body.now from (λ v. (y ≡ v) × (closes_one levels.now (slice_index body.now from) v ≡ false)) (rows sources.old) (rows sources.new)) }
+    ensures { OnOk result (Added body.now from
+        (λ v. (y ≡ v) × (closes_one levels.now (slice_index body.now from) v ≡ false))
+        (rows sources.old) (rows sources.new)) }
 {
     if closes(levels, body[from], y) {
         return Ok(());
@@ -148,7 +151,9 @@ fn add_steps(
     requires levels { All (λ l. IsStrictlyIncreasing l.body) levels.now }
     requires count { length sources.old ≡ length body.now }
     requires within { from < length body.now }
-    ensures { OnOk result (Added body.now from (λ v. Contains steps.now v × (closes_one levels.now (slice_index body.now from) v ≡ false)) (rows sources.old) (rows sources.new)) }
+    ensures { OnOk result (Added body.now from
+        (λ v. Contains steps.now v × (closes_one levels.now (slice_index body.now from) v ≡ false))
+        (rows sources.old) (rows sources.new)) }
 {
     for y in steps {
         add_step(sources, levels, body, from, *y)?;
@@ -306,7 +311,8 @@ pub fn flow_of(
     requires graph { IsInOrder graph.now }
     requires ordered { IsStrictlyIncreasing body.now }
     requires levels { All (λ l. IsStrictlyIncreasing l.body) levels.now }
-    requires ranked { (all : List (List ℕ)) → HasSources graph.now levels.now body.now (length body.now) all → HasRowRank all }
+    requires ranked { (all : List (List ℕ)) → HasSources graph.now levels.now body.now (length body.now) all
+        → HasRowRank all }
     ensures { IfOk result (IsFlow graph.now levels.now body.now) }
 {
     let instrs = instrs_of(alloc, graph, body)?;
@@ -329,7 +335,8 @@ pub fn loop_flow(
     requires graph { IsInOrder graph.now }
     requires nest { AreNest graph.now levels.now }
     requires within { level < length levels.now }
-    ensures { IfOk result (λ f. (l : Level) → slice_index_or levels.now level l ≡ l → IsFlow graph.now levels.now l.body f) }
+    ensures { IfOk result (λ f. (l : Level) → slice_index_or levels.now level l ≡ l
+        → IsFlow graph.now levels.now l.body f) }
 {
     flow_of(alloc, graph, levels, levels[level].body.as_slice())
 }

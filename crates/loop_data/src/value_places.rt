@@ -53,7 +53,8 @@ fn header_value(r: usize) -> Value
 
 /// What is known at the header.
 fn header_values() -> [Value; 48]
-    ensures { (r : ℕ) → r < 48 → fact_in result r ≡ header_fact (record { instr = λ u. None; cells = no_cells }) r }
+    ensures { (r : ℕ) → r < 48
+        → fact_in result r ≡ header_fact (record { instr = λ u. None; cells = no_cells }) r }
 {
     let mut of = [Value::Nothing; 48];
     for r in 0..48usize {
@@ -64,7 +65,8 @@ fn header_values() -> [Value; 48]
 
 /// Sets the flag of the location that a word writes.
 fn mark_word(flags: &mut [bool; 48], at: u64, instr: &Option<Instr>)
-    ensures { (r : ℕ) → r < 48 → slice_index_or flags.new r false ≡ (slice_index_or flags.old r false || word_writes no_cells at instr.now r) }
+    ensures { (r : ℕ) → r < 48
+        → slice_index_or flags.new r false ≡ (slice_index_or flags.old r false || word_writes no_cells at instr.now r) }
 {
     if let Some(instr) = instr {
         let r = target_of(instr) as usize;
@@ -77,7 +79,8 @@ fn mark_word(flags: &mut [bool; 48], at: u64, instr: &Option<Instr>)
 /// Sets the flags of the locations that the words of a body write.
 fn mark_body(flags: &mut [bool; 48], graph: &Graph, body: &[u64])
     requires { IsInOrder graph.now }
-    ensures { (r : ℕ) → r < 48 → slice_index_or flags.new r false ≡ (slice_index_or flags.old r false || any_writes (code_of graph.now no_cells) body.now r) }
+    ensures { (r : ℕ) → r < 48 → slice_index_or flags.new r false
+        ≡ (slice_index_or flags.old r false || any_writes (code_of graph.now no_cells) body.now r) }
 {
     for u in body {
         mark_word(flags, *u, &instr_at(graph, *u));
@@ -87,7 +90,8 @@ fn mark_body(flags: &mut [bool; 48], graph: &Graph, body: &[u64])
 /// Sets the flags of the locations that a loop writes, if this is its header.
 fn mark_loop(flags: &mut [bool; 48], graph: &Graph, level: &Level, v: u64)
     requires { IsInOrder graph.now }
-    ensures { (r : ℕ) → r < 48 → slice_index_or flags.new r false ≡ (slice_index_or flags.old r false || ((level.now.header == v) && any_writes (code_of graph.now no_cells) level.now.body r)) }
+    ensures { (r : ℕ) → r < 48 → slice_index_or flags.new r false ≡ (slice_index_or flags.old r false
+        || ((level.now.header == v) && any_writes (code_of graph.now no_cells) level.now.body r)) }
 {
     if level.header == v {
         mark_body(flags, graph, level.body.as_slice());
@@ -97,7 +101,8 @@ fn mark_loop(flags: &mut [bool; 48], graph: &Graph, level: &Level, v: u64)
 /// Which locations the loops with this header write.
 fn lost_flags(graph: &Graph, levels: &[Level], v: u64) -> [bool; 48]
     requires { IsInOrder graph.now }
-    ensures { (r : ℕ) → r < 48 → slice_index_or result r false ≡ lost_by (code_of graph.now no_cells) levels.now v r }
+    ensures { (r : ℕ) → r < 48
+        → slice_index_or result r false ≡ lost_by (code_of graph.now no_cells) levels.now v r }
 {
     let mut flags = [false; 48];
     for level in levels {
@@ -122,7 +127,8 @@ fn met_value(flow: &Flow, points: &[Values], sources: &[usize], r: usize) -> Val
     requires within { All (λ k. k < length points.now) sources.now }
     requires count { length flow.now.instrs.items ≡ length points.now }
     requires location { r < 48 }
-    ensures { (x : Fact) → (fact_of result ≡ Some x) ↔ ((k : ℕ) → Contains sources.now k → past flow.now.instrs.items points.now k r ≡ Some x) }
+    ensures { (x : Fact) → (fact_of result ≡ Some x) ↔ ((k : ℕ) → Contains sources.now k
+        → past flow.now.instrs.items points.now k r ≡ Some x) }
 {
     let mut value = past_value(flow, points, sources[0], r);
     for k in sources {
@@ -143,7 +149,8 @@ fn inner_value(
     requires within { All (λ k. k < length points.now) sources.now }
     requires count { length flow.now.instrs.items ≡ length points.now }
     requires location { r < 48 }
-    ensures { IsInnerFact (slice_index_or lost.now r false) flow.now.instrs.items points.now sources.now r (fact_of result) }
+    ensures { IsInnerFact (slice_index_or lost.now r false)
+        flow.now.instrs.items points.now sources.now r (fact_of result) }
 {
     if lost[r] {
         Value::Nothing
@@ -157,7 +164,8 @@ fn inner_values(lost: &[bool; 48], flow: &Flow, points: &[Values], sources: &[us
     requires some { 1 ≤ length sources.now }
     requires within { All (λ k. k < length points.now) sources.now }
     requires count { length flow.now.instrs.items ≡ length points.now }
-    ensures { (r : ℕ) → r < 48 → IsInnerFact (slice_index_or lost.now r false) flow.now.instrs.items points.now sources.now r (fact_in result r) }
+    ensures { (r : ℕ) → r < 48 → IsInnerFact (slice_index_or lost.now r false)
+        flow.now.instrs.items points.now sources.now r (fact_in result r) }
 {
     let mut of = [Value::Nothing; 48];
     for r in 0..48usize {
@@ -181,7 +189,8 @@ fn place_values(
     requires rows { length (rows flow.now.sources.items) ≡ length points.now }
     requires sources { (k : ℕ) → Contains (row_at (rows flow.now.sources.items) p) k → k < length points.now }
     requires some { (values_at points.now p).at ≢ header → 1 ≤ length (row_at (rows flow.now.sources.items) p) }
-    ensures { IsState (code_of graph.now no_cells) levels.now header (rows flow.now.sources.items) flow.now.instrs.items points.now p (values_at points.now p).at result }
+    ensures { IsState (code_of graph.now no_cells) levels.now header (rows flow.now.sources.items)
+        flow.now.instrs.items points.now p (values_at points.now p).at result }
 {
     let v = points[p].at;
     if v == header {
@@ -204,9 +213,12 @@ fn set_place(
     requires within { p < length points.old.items }
     requires count { length flow.now.instrs.items ≡ length points.old.items }
     requires rows { length (rows flow.now.sources.items) ≡ length points.old.items }
-    requires sources { (k : ℕ) → Contains (row_at (rows flow.now.sources.items) p) k → k < length points.old.items }
-    requires some { (values_at points.old.items p).at ≢ header → 1 ≤ length (row_at (rows flow.now.sources.items) p) }
-    ensures { IsSetAt (code_of graph.now no_cells) levels.now header (rows flow.now.sources.items) flow.now.instrs.items p points.old.items points.new.items }
+    requires sources { (k : ℕ) → Contains (row_at (rows flow.now.sources.items) p) k
+        → k < length points.old.items }
+    requires some { (values_at points.old.items p).at ≢ header
+        → 1 ≤ length (row_at (rows flow.now.sources.items) p) }
+    ensures { IsSetAt (code_of graph.now no_cells) levels.now header (rows flow.now.sources.items)
+        flow.now.instrs.items p points.old.items points.new.items }
 {
     let of = place_values(graph, levels, header, flow, points.as_slice(), p);
     points[p].of = of;
@@ -217,8 +229,10 @@ fn set_places(graph: &Graph, levels: &[Level], level: usize, flow: &Flow, points
     requires graph { IsInOrder graph.now }
     requires nest { AreNest graph.now levels.now }
     requires within { level < length levels.now }
-    requires flow { (l : Level) → slice_index_or levels.now level l ≡ l → IsFlow graph.now levels.now l.body flow.now }
-    requires words { (l : Level) → slice_index_or levels.now level l ≡ l → map (λ (p : Values). p.at) points.old.items ≡ l.body }
+    requires flow { (l : Level) → slice_index_or levels.now level l ≡ l
+        → IsFlow graph.now levels.now l.body flow.now }
+    requires words { (l : Level) → slice_index_or levels.now level l ≡ l
+        → map (λ (p : Values). p.at) points.old.items ≡ l.body }
     ensures { AreFactsOf graph.now levels.now no_cells level points.new.items }
 {
     let header = levels[level].header;
