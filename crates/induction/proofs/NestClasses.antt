@@ -1,0 +1,180 @@
+-- The classes of the loops of a nest.
+use Rattle.std.proofs.Common.{◌≡◌, ◌≢◌, ℕ, zero, suc, ◌+◌, ◌-◌, ◌<◌, ◌≤◌, ◌⊎◌, inl, inr, Bool, true, false, List, [], length, get_or, set, replicate, Option, Some, None, refl, ap, sym, ◌∙◌, subst, arith}
+use Rattle.std.specs.List.{All}
+use Rattle.std.specs.List.Sorted.{IsStrictlyIncreasing}
+use Rattle.std.proofs.lemmas.Bool.{cases_eq, cases_lt}
+use Rattle.std.proofs.lemmas.List.{get_or-set_same, get_or-set_other, length-set, get_or_default}
+use Rattle.linear_forms.specs.declared.location.Loc.{Loc}
+use Rattle.loop_data.specs.declared.cells.Cells.{Cells}
+use Rattle.loop_data.specs.declared.classes.Class.{Class}
+use Rattle.loop_data.specs.declared.classes.Class.TheVariants.{Induction, Private}
+use Rattle.loop_data.specs.declared.classes.Classes.{Classes}
+use Rattle.loop_data.specs.declared.graph.Graph.{Graph}
+use Rattle.loop_data.specs.declared.shape.Level.{Level}
+use Rattle.loop_data.specs.Nests.{Nest, In}
+use Rattle.loop_data.specs.Locations.{CellMap, no_cells}
+use Rattle.loop_data.specs.LoopWords.{AreNest}
+use Rattle.loop_data.specs.LoopCode.{LoopCode, code_of, any_writes, writes, IsUnwritten, IsWritten}
+use Rattle.loop_data.specs.Lookups.{cell_map, role_by}
+use Rattle.loop_data.specs.Classes.{FactsOf, HasRole, HasInnerRole}
+use Rattle.loop_data.specs.Results.{IsNestOf}
+use Rattle.loop_data.proofs.Tests.{true_or_false, yes_no}
+use Rattle.loop_data.proofs.FactUnique.{some_writes_it, none_writes_it}
+use Rattle.loop_data.proofs.FlowEdges.{listed_in, levels_ordered}
+use Rattle.induction.specs.declared.words.Words.{Words}
+use Rattle.induction.specs.Words.{AreWords, IsLoopOf}
+use Rattle.induction.specs.Rows.{HasClass, HasInnerClass, IsMoving, TellsRow, TellsInnerRow, IsLeastAt}
+use Rattle.induction.specs.Results.{AreFactsOfAll, class_in, class_at, IsRootRow, IsInnerRow, AreInnerRows, AreClasses, IsLeastCarried}
+use Rattle.induction.proofs.PlaceMarks.{levels_of}
+use Rattle.induction.proofs.WordLists.{cells_none, rises_at}
+
+-- the loop at a place among the levels, with what is known at its words
+pub record IsAt (G : Graph) (ls : List Level) (i : ℕ) (l : Level) (w : Words) : Type 0 where
+  pub nest : AreNest G ls
+  pub within : i < length ls
+  pub here : l ≡ get_or ls i l
+  pub words : (m : Level) → get_or ls i m ≡ m → AreWords G ls m w
+
+loop_of : (G : Graph) (ls : List Level) (i : ℕ) (l : Level) (w : Words) → IsAt G ls i l w → (N : Nest) (V : FactsOf) → IsNestOf G ls N → AreFactsOfAll N (code_of G no_cells) V → IsLoopOf G ls N l (V l) w
+loop_of G ls i l w at N V of all =
+    let among = subst (λ (xs : List Level). In xs l) (levels_of G ls N of) (listed_in ls i l at.within (sym at.here)) in
+    record { nest = at.nest; of = of; among = among; words = at.words l (sym at.here); facts = all l among }
+
+root_is : (G : Graph) (ls : List Level) (l : Level) (N : Nest) → l ≡ get_or ls 0 l → IsNestOf G ls N → l ≡ N.root
+root_is G ls l N e of = e ∙ ap (λ (xs : List Level). get_or xs 0 l) (levels_of G ls N of)
+
+pub root_row_is : (G : Graph) (ls : List Level) (l : Level) (w : Words) (row : List (Option Class)) (c : Cells) → c.list.items ≡ [] → c.uses.items ≡ [] → IsAt G ls 0 l w → TellsRow ls l w row 48 → IsRootRow G ls (cell_map c) row
+root_row_is G ls l w row c none unused at tells =
+    subst (λ (C : CellMap). IsRootRow G ls C row) (sym (cells_none c none unused))
+    (λ N V r of all lt. tells r lt G N V (loop_of G ls 0 l w at N V of all) (root_is G ls l N at.here of))
+
+pub least_is : (G : Graph) (ls : List Level) (l : Level) (w : Words) (loc : Loc) (c : Cells) → c.list.items ≡ [] → c.uses.items ≡ [] → IsAt G ls 0 l w → IsLeastAt ls l w loc → IsLeastCarried G ls (cell_map c) loc
+least_is G ls l w loc c none unused at least =
+    subst (λ (C : CellMap). IsLeastCarried G ls C loc) (sym (cells_none c none unused))
+    (λ N V of all. least G N V (loop_of G ls 0 l w at N V of all) (root_is G ls l N at.here of))
+
+pub inner_row_is : (G : Graph) (ls : List Level) (i : ℕ) (l : Level) (w : Words) (row : List (Option Class)) (c : Cells) → c.list.items ≡ [] → c.uses.items ≡ [] → IsAt G ls i l w → TellsInnerRow ls l w row 48 → IsInnerRow G ls (cell_map c) i row
+inner_row_is G ls i l w row c none unused at tells =
+    subst (λ (C : CellMap). IsInnerRow G ls C i row) (sym (cells_none c none unused)) (record { moving = λ r lt. (tells r lt).0; each = each })
+  where
+    each : (N : Nest) (V : FactsOf) (m : Level) (r : ℕ) → IsNestOf G ls N → AreFactsOfAll N (code_of G no_cells) V → get_or ls i m ≡ m → r < 48 → HasInnerClass N (code_of G no_cells) V m r (class_in row r)
+    each N V m r of all e lt =
+        let q = at.here ∙ get_or_default ls i l m at.within ∙ e in
+        subst (λ (x : Level). HasInnerClass N (code_of G no_cells) V x r (class_in row r)) q ((tells r lt).1 G N V (loop_of G ls i l w at N V of all))
+
+-- no rows yet, and one row more
+no_class : (n r : ℕ) → class_in (replicate n None) r ≡ None
+no_class zero r = refl
+no_class (suc n) zero = refl
+no_class (suc n) (suc r) = no_class n r
+
+no_row : (n i r : ℕ) → class_at (replicate n (replicate 48 None)) i r ≡ None
+no_row zero i r = refl
+no_row (suc n) zero r = no_class 48 r
+no_row (suc n) (suc i) r = no_row n i r
+
+pub rows_none : (G : Graph) (ls : List Level) (C : CellMap) (rows : List (List (Option Class))) → rows ≡ replicate 3 (replicate 48 None) → AreInnerRows G ls C 1 rows
+rows_none G ls C rows e = record {
+  count = ap length e;
+  each = λ i l. absurd (omega arith);
+  beyond = λ i r l. ap (λ (xs : List (List (Option Class))). class_at xs i r) e ∙ no_row 3 i r;
+}
+
+pub rows_more : (G : Graph) (ls : List Level) (C : CellMap) (rows : List (List (Option Class))) (n : ℕ) (row : List (Option Class)) → n < 3 → AreInnerRows G ls C (n + 1) rows → IsInnerRow G ls C (n + 1) row → AreInnerRows G ls C (n + 1 + 1) (set rows n row)
+rows_more G ls C rows n row lt a b = record { count = length-set rows n row ∙ a.count; each = each; beyond = beyond }
+  where
+    each : (i : ℕ) → i + 1 < n + 1 + 1 → IsInnerRow G ls C (i + 1) (get_or (set rows n row) i [])
+    each i l = by (cases_eq i n)
+      where
+        by : (i ≡ n) ⊎ (i ≢ n) → IsInnerRow G ls C (i + 1) (get_or (set rows n row) i [])
+        by (inl e) = let c = a.count in subst (λ k. IsInnerRow G ls C (k + 1) (get_or (set rows n row) k [])) (sym e) (subst (IsInnerRow G ls C (n + 1)) (sym (get_or-set_same rows n row [] (omega arith))) b)
+        by (inr ne) = subst (IsInnerRow G ls C (i + 1)) (sym (get_or-set_other rows n i row [] ne)) (a.each i (omega arith))
+
+    beyond : (i r : ℕ) → n + 1 + 1 ≤ i + 1 → class_at (set rows n row) i r ≡ None
+    beyond i r l = ap (λ (xs : List (Option Class)). class_in xs r) (get_or-set_other rows n i row [] (λ e. absurd (omega arith))) ∙ a.beyond i r (omega arith)
+
+-- the role that a class tells
+any_written : (B : LoopCode) (l : Level) (r : ℕ) → any_writes B l.body r ≡ true → IsWritten B l r
+any_written B l r t = let w = some_writes_it B l.body r t in record { word = w.0; inside = w.1; does = w.2 }
+
+none_written : (B : LoopCode) (l : Level) (r : ℕ) → IsUnwritten B l r → any_writes B l.body r ≡ false
+none_written B l r none = by (true_or_false (any_writes B l.body r))
+  where
+    by : (any_writes B l.body r ≡ true) ⊎ (any_writes B l.body r ≡ false) → any_writes B l.body r ≡ false
+    by (inl t) = let w = some_writes_it B l.body r t in absurd (yes_no (writes B w.0 r) w.2 (none w.0 w.1))
+    by (inr f) = f
+
+role_is : (N : Nest) (B : LoopCode) (V : FactsOf) (r : ℕ) (c : Option Class) (b : Bool) → any_writes B N.root.body r ≡ b → HasClass N B V r c → HasRole N B V r (role_by b c)
+role_is N B V r None true e h = absurd (yes_no (any_writes B N.root.body r) e (none_written B N.root r h))
+role_is N B V r None false e h = h
+role_is N B V r (Some (Induction z)) true e h = h
+role_is N B V r (Some (Induction z)) false e h = h
+role_is N B V r (Some Private) true e h = h
+role_is N B V r (Some Private) false e h = h
+
+inner_role_is : (N : Nest) (B : LoopCode) (V : FactsOf) (l : Level) (r : ℕ) (c : Option Class) (b : Bool) → any_writes B l.body r ≡ b → HasInnerClass N B V l r c → HasInnerRole N B V l r (role_by b c)
+inner_role_is N B V l r None true e h = (any_written B l r e, h)
+inner_role_is N B V l r None false e h = λ u i. none_writes_it B l.body r u e i
+inner_role_is N B V l r (Some (Induction z)) true e h = h
+inner_role_is N B V l r (Some (Induction z)) false e h = h
+inner_role_is N B V l r (Some Private) b e h = absurd h
+
+not_private : (c : Option Class) → IsMoving c → c ≢ Some Private
+not_private None m e = absurd (cc)
+not_private (Some (Induction z)) m e = absurd (cc)
+not_private (Some Private) m e = m
+
+none_private : (c : Option Class) → c ≡ None → c ≢ Some Private
+none_private c e f = absurd (cc)
+
+is_kept : (N : Nest) (B : LoopCode) (V : FactsOf) (r : ℕ) (c : Option Class) → c ≡ None → HasClass N B V r c → IsUnwritten B N.root r
+is_kept N B V r c e h = subst (HasClass N B V r) e h
+
+pub classes_are : (G : Graph) (ls : List Level) (C : CellMap) (c : Classes) → IsRootRow G ls C c.root → AreInnerRows G ls C (length ls) c.inner → AreClasses G ls C c
+classes_are G ls C c root rows = record {
+  root = λ N V r of all lt. role_is N (code_of G C) V r (class_in c.root r) (any_writes (code_of G C) N.root.body r) refl (root N V r of all lt);
+  unwritten = λ N V r of all lt e. is_kept N (code_of G C) V r (class_in c.root r) e (root N V r of all lt);
+  inner = inner;
+  moving = moving;
+  beyond = beyond;
+}
+  where
+    long : (N : Nest) → IsNestOf G ls N → length ls ≡ suc (length N.inner)
+    long N of = ap (λ (xs : List Level). length xs) (levels_of G ls N of)
+
+    inner : (N : Nest) (V : FactsOf) (l : Level) (i r : ℕ) → IsNestOf G ls N → AreFactsOfAll N (code_of G C) V → i < length N.inner → get_or N.inner i l ≡ l → r < 48 → HasInnerRole N (code_of G C) V l r (role_by (any_writes (code_of G C) l.body r) (class_at c.inner i r))
+    inner N V l i r of all lt e lr =
+        let n = long N of in
+        let s : i + 1 ≡ suc i = omega arith in
+        let here : get_or ls (i + 1) l ≡ l = ap (λ k. get_or ls k l) s ∙ ap (λ (xs : List Level). get_or xs (suc i) l) (levels_of G ls N of) ∙ e in
+        inner_role_is N (code_of G C) V l r (class_at c.inner i r) (any_writes (code_of G C) l.body r) refl ((rows.each i (omega arith)).each N V l r of all here lr)
+
+    moving : (i r : ℕ) → r < 48 → class_at c.inner i r ≢ Some Private
+    moving i r lr = by (cases_lt (i + 1) (length ls))
+      where
+        by : (i + 1 < length ls) ⊎ (length ls ≤ i + 1) → class_at c.inner i r ≢ Some Private
+        by (inl l) = not_private (class_at c.inner i r) ((rows.each i l).moving r lr)
+        by (inr l) = none_private (class_at c.inner i r) (rows.beyond i r l)
+
+    beyond : (N : Nest) (i r : ℕ) → IsNestOf G ls N → length N.inner ≤ i → class_at c.inner i r ≡ None
+    beyond N i r of l = let n = long N of in rows.beyond i r (omega arith)
+
+pub rows_more_at : (G : Graph) (ls : List Level) (C : CellMap) (rows : List (List (Option Class))) (level : ℕ) (row : List (Option Class)) → 1 ≤ level → level < 4 → AreInnerRows G ls C level rows → IsInnerRow G ls C level row → AreInnerRows G ls C (level + 1) (set rows (level - 1) row)
+rows_more_at G ls C rows level row one lt a b =
+    let e : level ≡ level - 1 + 1 = omega arith in
+    subst (λ k. AreInnerRows G ls C (k + 1) (set rows (level - 1) row)) (sym e)
+    (rows_more G ls C rows (level - 1) row (omega arith) (subst (λ k. AreInnerRows G ls C k rows) e a) (subst (λ k. IsInnerRow G ls C k row) e b))
+
+-- a nest has at most 4 loops
+pub few_levels : (G : Graph) (ls : List Level) → AreNest G ls → (length ls ≤ 4) × (0 < length ls)
+few_levels G ls nest = let n : length ls ≡ suc (length nest.inner) = ap (λ (xs : List Level). length xs) nest.are in let f = nest.few in (omega arith, omega arith)
+
+-- the loop at a place among the levels that a slice has
+pub is_at : (G : Graph) (ls xs : List Level) (i : ℕ) (l : Level) (w : Words) → AreNest G ls → i < length ls → xs ≡ ls → l ≡ get_or xs i l → ((m : Level) → get_or ls i m ≡ m → AreWords G ls m w) → IsAt G ls i l w
+is_at G ls xs i l w nest within e at words = record { nest = nest; within = within; here = at ∙ ap (λ (ys : List Level). get_or ys i l) e; words = words }
+
+pub levels_rise : (G : Graph) (ls xs : List Level) → AreNest G ls → xs ≡ ls → All (λ (l : Level). IsStrictlyIncreasing l.body) xs
+levels_rise G ls xs nest e = subst (λ (ys : List Level). All (λ (l : Level). IsStrictlyIncreasing l.body) ys) (sym e) (levels_ordered G ls nest)
+
+pub level_rises : (G : Graph) (ls : List Level) (i : ℕ) (l : Level) (w : Words) → IsAt G ls i l w → IsStrictlyIncreasing l.body
+level_rises G ls i l w at = rises_at G ls i l at.nest at.within at.here

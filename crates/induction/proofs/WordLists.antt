@@ -1,0 +1,62 @@
+-- Cells and rows of a loop without cells.
+use Rattle.std.proofs.Common.{◌≡◌, ℕ, ◌<◌, List, [], length, get_or, Option, ap, sym, ◌∙◌, subst, arith}
+use Rattle.std.specs.List.Sorted.{IsStrictlyIncreasing}
+use Rattle.std.proofs.lemmas.List.{get_or_default, length-map}
+use Rattle.loop_data.specs.declared.cells.Cells.{Cells}
+use Rattle.loop_data.specs.declared.verdict.Cell.{Cell}
+use Rattle.loop_data.specs.declared.graph.Graph.{Graph}
+use Rattle.loop_data.specs.declared.flow.Flow.{Flow}
+use Rattle.loop_data.specs.declared.shape.Level.{Level}
+use Rattle.loop_data.specs.declared.values.Values.{Values}
+use Rattle.loop_data.specs.Nests.{In}
+use Rattle.loop_data.specs.Locations.{CellMap, no_cells}
+use Rattle.loop_data.specs.LoopCode.{code_of, instr_among}
+use Rattle.loop_data.specs.LoopWords.{AreNest}
+use Rattle.loop_data.specs.FactPass.{AreFacts}
+use Rattle.loop_data.specs.Flows.{rows, AreRowsWithin, IsFlow}
+use Rattle.loop_data.specs.Lookups.{cell_map, use_of, fact_at}
+use Rattle.loop_data.specs.Results.{AreFactsOf}
+use Rattle.loop_data.proofs.FlowEdges.{listed_in}
+use Rattle.induction.specs.declared.words.Words.{Words}
+use Rattle.induction.specs.Masks.{has_bit, bit_after, AreMasks}
+use Rattle.induction.specs.Words.{AreWords}
+
+-- without cells the map of the cells is the empty one
+pub cells_none : (c : Cells) → c.list.items ≡ [] → c.uses.items ≡ [] → cell_map c ≡ no_cells
+cells_none c e f =
+    ap (λ (xs : List Cell). record_of xs (use_of c.uses.items)) e ∙ ap (λ (us : List (ℕ × ℕ)). record_of [] (use_of us)) f
+  where
+    record_of : List Cell → (ℕ → Option ℕ) → CellMap
+    record_of xs uses = record { cells = xs; uses = uses }
+
+pub rows_within : (G : Graph) (ls : List Level) (body : List ℕ) (f : Flow) → IsFlow G ls body f → AreRowsWithin (rows f.sources.items)
+rows_within G ls body f flow j k c =
+    let e = flow.sources.each j k c in
+    let n = flow.sources.count in
+    let l = e.0 in
+    omega arith
+
+-- the loop at a place is one of the levels
+pub rises_at : (G : Graph) (ls : List Level) (level : ℕ) (l : Level) → AreNest G ls → level < length ls → l ≡ get_or ls level l → IsStrictlyIncreasing l.body
+rises_at G ls level l nest within e = nest.ordered l (subst (λ (xs : List Level). In xs l) nest.are (listed_in ls level l within (sym e)))
+
+pub same_level : (ls : List Level) (level : ℕ) (l m : Level) → level < length ls → l ≡ get_or ls level l → get_or ls level m ≡ m → l ≡ m
+same_level ls level l m within e f = e ∙ get_or_default ls level l m within ∙ f
+
+-- what is known at the words of a loop, put together
+pub words_are : (G : Graph) (ls : List Level) (level : ℕ) (l : Level) (c : Cells) (w : Words) → c.list.items ≡ [] → c.uses.items ≡ [] → get_or ls level l ≡ l → IsFlow G ls l.body w.flow → AreFactsOf G ls (cell_map c) level w.points.items
+    → AreMasks l.header l.body w.flow.instrs.items (rows w.flow.sources.items) w.masks.items
+    → ((p : ℕ) → p < length l.body → get_or l.body p 0 ≡ l.back → (r : ℕ) → r < 32 → has_bit w.always r ≡ bit_after w.flow.instrs.items w.masks.items p r)
+    → AreWords G ls l w
+words_are G ls level l c w none unused e flow facts masks always = record {
+  sized = record {
+    instrs = ap length flow.instrs ∙ length-map l.body (instr_among G.words);
+    points = sym (length-map w.points.items (λ (v : Values). v.at)) ∙ ap length (facts.words l e);
+    masks = masks.count;
+  };
+  flow = flow;
+  addresses = facts.words l e;
+  facts = λ N of. subst (λ (C : CellMap). AreFacts N (code_of G C) l (fact_at w.points.items)) (cells_none c none unused) (facts.facts N l of e);
+  masks = masks;
+  always = always;
+}

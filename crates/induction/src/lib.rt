@@ -1,0 +1,15 @@
+//! The classes of the locations that a loop writes: inductions, which a turn moves on by a step, and private
+//! ones, which each turn writes before it reads them. A loop that writes a location in another way carries
+//! it from turn to turn.
+#![tactic(auto)]
+
+mod masks;
+mod moves;
+mod nest;
+pub mod refusal;
+mod rows;
+mod words;
+mod writers;
+
+pub use nest::classes;
+pub use refusal::ClassErr;

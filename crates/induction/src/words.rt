@@ -1,0 +1,88 @@
+ghost use Rattle.std.specs.Prelude.{ℕ, ◌≡◌, ◌<◌, [], true, false, length, slice_index, slice_index_or, IfOk};
+ghost use Rattle.std.specs.List.Sorted.{IsStrictlyIncreasing};
+ghost use Rattle.loop_data.specs.declared.shape.Level.{Level};
+ghost use Rattle.loop_data.specs.LoopWords.{AreNest};
+ghost use Rattle.loop_data.specs.Paths.{IsInOrder};
+ghost use Rattle.induction.specs.Masks.{IsMaskPast};
+ghost use Rattle.induction.specs.Words.{AreWordsAt, IsPrivateAt, IsNotPrivateAt};
+
+use crate::masks::{contains, masks_of, with};
+use crate::writers::reads_first;
+use loop_data::flow::{Flow, loop_flow, place_of};
+use loop_data::{Cells, Graph, LoopShape, Values, value_pass};
+use rv64_decode::Instr;
+use std::alloc::{AllocError, Global};
+
+/// The words of a loop with what is known at each of them, by their places in its body.
+#[derive(Drop)]
+pub struct Words {
+    /// The words, with the edges between them that close no loop.
+    pub flow: Flow,
+    /// What is known of each location before each word.
+    pub points: Vec<Values>,
+    /// The registers that each way from the header to each word writes.
+    pub masks: Vec<u64>,
+    /// The registers that each pass writes.
+    pub always: u64,
+}
+
+/// The registers that are written on all ways past the word at an address.
+fn mask_past(instrs: &[Option<Instr>], masks: &[u64], body: &[u64], x: u64) -> u64
+    requires ordered { IsStrictlyIncreasing body.now }
+    requires instrs { length instrs.now ≡ length body.now }
+    requires masks { length masks.now ≡ length body.now }
+    ensures { IsMaskPast instrs.now masks.now body.now x result }
+{
+    match place_of(body, x) {
+        Some(p) => with(masks[p], &instrs[p]),
+        None => 0,
+    }
+}
+
+/// The words of the loop at a place among the levels of a listed loop.
+pub fn words_of(
+    alloc: Global,
+    shape: &LoopShape,
+    level: usize,
+    graph: &Graph,
+    cells: &Cells,
+) -> Result<Words, AllocError>
+    requires graph { IsInOrder graph.now }
+    requires nest { AreNest graph.now shape.now.levels }
+    requires within { level < length shape.now.levels }
+    requires no_cells { cells.now.list.items ≡ [] }
+    requires no_uses { cells.now.uses.items ≡ [] }
+    ensures { IfOk result (AreWordsAt graph.now shape.now.levels level) }
+{
+    let levels = shape.levels.as_slice();
+    let flow = loop_flow(alloc, graph, levels, level)?;
+    let points = value_pass(alloc, shape, level as u32, graph, cells)?;
+    let loop_level = &levels[level];
+    let body = loop_level.body.as_slice();
+    let masks = masks_of(alloc, &flow, body, loop_level.header)?;
+    let always = mask_past(
+        flow.instrs.as_slice(),
+        masks.as_slice(),
+        body,
+        loop_level.back,
+    );
+    Ok(Words {
+        flow,
+        points,
+        masks,
+        always,
+    })
+}
+
+/// Whether each pass writes a register, and before any read of it.
+pub fn is_private(words: &Words, r: usize) -> bool
+    requires count { length words.now.masks.items ≡ length words.now.flow.instrs.items }
+    requires location { r < 32 }
+    ensures yes { result ≡ true → IsPrivateAt words.now r }
+    ensures no { result ≡ false → IsNotPrivateAt words.now r }
+{
+    if !contains(words.always, r) {
+        return false;
+    }
+    !reads_first(words.flow.instrs.as_slice(), words.masks.as_slice(), r)
+}
