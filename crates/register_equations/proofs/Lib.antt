@@ -2,3 +2,14 @@ pub mod Times
 pub mod Solutions
 pub mod Walks
 pub mod Runs
+pub mod ShortForms
+pub mod ClassRows
+pub mod Strided
+pub mod Coming
+pub mod Placed
+pub mod Solving
+pub mod Ending
+pub mod Unique
+pub mod Innermost
+pub mod DutyLists
+pub mod Equated

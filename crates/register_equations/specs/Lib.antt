@@ -1,1 +1,5 @@
 pub mod FormLaws
+pub mod Rows
+pub mod States
+pub mod OneSolution
+pub mod Astray

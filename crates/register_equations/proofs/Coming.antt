@@ -1,0 +1,97 @@
+-- Forms that come along edges, and terms place by place.
+use Rattle.std.proofs.Common.{◌≡◌, ◌≢◌, ℕ, zero, suc, ◌+◌, ◌<◌, ◌≤◌, ◌⊎◌, ◌↔◌, inl, inr, Bool, true, false, IsTrue, List, [], length, get_or, set, Option, Some, None, refl, ap, sym, ◌∙◌, subst, arith, ℤ, to_z, of_z, w64, ◌==◌, ◌||◌, ◌++◌, ◌∷◌, if◌then◌else◌, take, replicate}
+use Rattle.std.specs.List.{All}
+use Rattle.std.proofs.lemmas.Bool.{cases_eq}
+use Rattle.std.proofs.lemmas.List.{get_or-set_same, get_or-set_other, get_or-map, take_more}
+use Rattle.linear_forms.specs.declared.location.Loc.{Loc}
+use Rattle.linear_forms.specs.Forms.{EntryTerm, LinearForm}
+use Rattle.linear_forms.specs.Locations.{term_of, terms_of}
+use Rattle.loop_data.specs.declared.classes.Class.{Class}
+use Rattle.loop_data.specs.declared.classes.Classes.{Classes}
+use Rattle.loop_data.specs.declared.shape.Level.{Level}
+use Rattle.loop_data.specs.LoopCode.{LoopCode, writes, any_writes}
+use Rattle.loop_data.specs.Equations.{header_form}
+use Rattle.loop_data.specs.Lookups.{classes_of, role_by}
+use Rattle.register_equations.specs.Rows.{forms_in}
+use Rattle.register_equations.specs.States.{AreSmall, AreSmallSteps, IsFree, IsHeaderForm}
+
+-- where a first form does not come along all edges, none does
+pub met_differs : (P : ℕ → LinearForm → Type 0) (ks : List ℕ) (o : Option LinearForm) (g : LinearForm) (d : ℕ) → 1 ≤ length ks → ((f : LinearForm) → (o ≡ Some f) ↔ P (get_or ks 0 d) f) → o ≡ Some g → (IsTrue false ↔ All (λ k. P k g) ks)
+    → (f : LinearForm) → (None ≡ Some f) ↔ All (λ k. P k f) ks
+met_differs P ks o g d some h e n f = (λ q. absurd (cc), back)
+  where
+    back : All (λ k. P k f) ks → None ≡ Some f
+    back a =
+        let p : o ≡ Some f = (h f).1 (a 0 d some) in
+        let q : f ≡ g = cc in
+        let t : IsTrue false = n.1 (subst (λ x. All (λ k. P k x) ks) q a) in
+        absurd (cc)
+
+pub met_nothing : (P : ℕ → LinearForm → Type 0) (ks : List ℕ) (o : Option LinearForm) (d : ℕ) → 1 ≤ length ks → ((f : LinearForm) → (o ≡ Some f) ↔ P (get_or ks 0 d) f) → o ≡ None
+    → (f : LinearForm) → (None ≡ Some f) ↔ All (λ k. P k f) ks
+met_nothing P ks o d some h e f = (λ q. absurd (cc), λ a. sym e ∙ (h f).1 (a 0 d some))
+
+-- lists of terms that are the same are so place by place
+pub terms_at : (ts us : List (Loc × ℤ)) (i : ℕ) (d e : Loc × ℤ) → i < length ts → i < length us → terms_of ts ≡ terms_of us
+    → term_of ((get_or ts i d).0, to_z w64 (of_z w64 (get_or ts i d).1)) ≡ term_of ((get_or us i e).0, to_z w64 (of_z w64 (get_or us i e).1))
+terms_at ts us i d e l m q =
+    let k = sym (get_or-map term_of ts i d (term_of d) l) ∙ ap (λ xs. get_or xs i (term_of d)) q ∙ get_or-map term_of us i e (term_of d) m in
+    ap (λ (t : EntryTerm). record { loc = t.loc; by = to_z w64 (of_z w64 t.by) }) k
+
+-- one more form is set, and those below it stay
+pub filled : (P : ℕ → Option LinearForm → Type 0) (S : List (Option LinearForm)) (r : ℕ) (x : Option LinearForm) → r < length S → ((q : ℕ) → q < r → P q (forms_in S q)) → P r x → (q : ℕ) → q < r + 1 → P q (forms_in (set S r x) q)
+filled P S r x l before here q m = by (cases_eq q r)
+  where
+    by : (q ≡ r) ⊎ (q ≢ r) → P q (forms_in (set S r x) q)
+    by (inl e) = subst (λ j. P j (forms_in (set S r x) j)) (sym e) (subst (P r) (sym (get_or-set_same S r x None l)) here)
+    by (inr ne) = subst (P q) (sym (get_or-set_other S r q x None ne)) (before q (omega arith))
+
+-- the classes of a loop have small steps
+small_rows : (ms : List Level) (rows : List (List (Option Class))) (l : Level) → ((i : ℕ) → AreSmall (get_or rows i [])) → AreSmall (classes_of ms rows l)
+small_rows [] rows l h = λ r step e. absurd (cc)
+small_rows (m ∷ ms) [] l h = λ r step e. absurd (cc)
+small_rows (m ∷ ms) (row ∷ rows) l h = go (m.header == l.header) (small_rows ms rows l (λ i. h (suc i)))
+  where
+    go : (b : Bool) → AreSmall (classes_of ms rows l) → AreSmall (if b then row else classes_of ms rows l)
+    go true later = h 0
+    go false later = later
+
+pub small_class : (ms : List Level) (c : Classes) (l : Level) → AreSmallSteps c → AreSmall (classes_of ms (c.root ∷ c.inner) l)
+small_class ms c l s = small_rows ms (c.root ∷ c.inner) l row
+  where
+    row : (i : ℕ) → AreSmall (get_or (c.root ∷ c.inner) i [])
+    row zero = s.root
+    row (suc i) = s.inner i
+
+or_none : (a : Bool) → (a || false) ≡ a
+or_none true = refl
+or_none false = refl
+
+or_assoc : (a b c : Bool) → ((a || b) || c) ≡ (a || (b || c))
+or_assoc true b c = refl
+or_assoc false b c = refl
+
+writes_push : (B : LoopCode) (us : List ℕ) (u r : ℕ) → any_writes B (us ++ u ∷ []) r ≡ (any_writes B us r || writes B u r)
+writes_push B [] u r = or_none (writes B u r)
+writes_push B (x ∷ xs) u r = ap (λ b. writes B x r || b) (writes_push B xs u r) ∙ sym (or_assoc (writes B x r) (any_writes B xs r) (writes B u r))
+
+-- a flag that tells whether one of the words writes, after one word more
+pub writes_more : (B : LoopCode) (us : List ℕ) (i r : ℕ) (old new : Bool) → i < length us → old ≡ any_writes B (take i us) r → new ≡ (old || writes B (get_or us i 0) r) → new ≡ any_writes B (take (i + 1) us) r
+writes_more B us i r old new l e f =
+    f ∙ ap (λ b. b || writes B (get_or us i 0) r) e ∙ sym (ap (λ xs. any_writes B xs r) (take_more us i 0 l) ∙ writes_push B (take i us) (get_or us i 0) r)
+
+pub none_set : (n r : ℕ) → get_or (replicate n false) r false ≡ false
+none_set zero zero = refl
+none_set zero (suc r) = refl
+none_set (suc n) zero = refl
+none_set (suc n) (suc r) = none_set n r
+
+-- the form at a header, where a flag tells whether the loop writes the location
+pub header_record : (B : LoopCode) (levels : List Level) (c : Classes) (l : Level) (P : Option LinearForm → Type 0) (r : ℕ) (o outside : Option LinearForm) (written : Bool) (body : List ℕ) → written ≡ any_writes B body r → body ≡ l.body → P outside
+    → (IsFree l.depth outside → o ≡ header_form l.depth (role_by written (get_or (classes_of levels (c.root ∷ c.inner) l) r None)) outside) → IsHeaderForm B levels c l P r o
+header_record B levels c l P r o outside written body e b p h =
+    record {
+      outside = outside;
+      met = p;
+      is = λ free. h free ∙ ap (λ w. header_form l.depth (role_by w (get_or (classes_of levels (c.root ∷ c.inner) l) r None)) outside) (e ∙ ap (λ us. any_writes B us r) b);
+    }

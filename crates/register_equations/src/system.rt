@@ -1,0 +1,39 @@
+ghost use Rattle.std.specs.Prelude.{◌≡◌, [], IfOk};
+ghost use Rattle.loop_data.specs.LoopWords.{AreNest};
+ghost use Rattle.loop_data.specs.Lookups.{cell_map};
+ghost use Rattle.loop_data.specs.Paths.{IsInOrder};
+ghost use Rattle.loop_data.specs.Results.{AreEquations};
+ghost use Rattle.register_equations.specs.States.{AreSmallSteps};
+
+use crate::duties::duties_of;
+use crate::passes::solved_points;
+use crate::unconfirmed::unconfirmed;
+use loop_data::{Cells, Classes, Duties, Equations, Graph, LoopShape, Points};
+use std::alloc::{AllocError, Global};
+
+/// The forms of the locations at the words of a listed loop without cells, whose classes are these, what the words
+/// owe, and the least induction that is not written with its header's form and the step.
+pub fn solve(
+    alloc: Global,
+    shape: &LoopShape,
+    graph: &Graph,
+    cells: &Cells,
+    classes: &Classes,
+) -> Result<Equations, AllocError>
+    requires graph { IsInOrder graph.now }
+    requires nest { AreNest graph.now shape.now.levels }
+    requires no_cells { cells.now.list.items ≡ [] }
+    requires no_uses { cells.now.uses.items ≡ [] }
+    requires steps { AreSmallSteps classes.now }
+    ensures { IfOk result (AreEquations graph.now shape.now.levels (cell_map cells.now) classes.now) }
+{
+    let levels = shape.levels.as_slice();
+    let points = solved_points(alloc, graph, levels, classes)?;
+    let duties = duties_of(alloc, graph, levels, points.as_slice())?;
+    let unconfirmed = unconfirmed(graph, levels, classes, points.as_slice());
+    Ok(Equations {
+        points: Points::new(points),
+        duties: Duties::new(duties),
+        unconfirmed,
+    })
+}
