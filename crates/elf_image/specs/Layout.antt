@@ -43,11 +43,14 @@ LieFrom from (s ∷ rest) =
     (from ≤ rounded_low s) × (0 < s.memsz) × (length s.bytes ≤ s.memsz) × (s.vaddr + s.memsz ≤ load_end)
     × ((is_writable s && is_executable s) ≡ false) × LieFrom (rounded_end s) rest
 
--- the address lies in an executable segment
+-- the address lies in the area of an executable segment
+abbrev pub is_code_of : Segment → ℕ → Bool
+is_code_of s addr = is_executable s && (nat_le (rounded_low s) addr && nat_lt addr (rounded_end s))
+
+-- it lies in that of one of these segments
 abbrev pub in_code : List Segment → ℕ → Bool
 in_code [] addr = false
-in_code (s ∷ rest) addr =
-    is_executable s && (nat_le (rounded_low s) addr && nat_lt addr (rounded_end s)) || in_code rest addr
+in_code (s ∷ rest) addr = is_code_of s addr || in_code rest addr
 
 -- how many bytes the segments have in memory together
 abbrev pub total_length : List Segment → ℕ

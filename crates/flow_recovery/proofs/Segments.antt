@@ -3,8 +3,8 @@ use Rattle.std.proofs.Common.{◌≡◌, ℕ, zero, suc, ◌+◌, ◌%◌, ◌==
 use Rattle.std.proofs.lemmas.Bool.{false≢true, and_parts, ltb-true, eqb-true, eq-eqb}
 use Rattle.elf_image.specs.declared.image.Elf.{Elf}
 use Rattle.elf_image.specs.declared.image.Segment.{Segment}
-use Rattle.elf_image.specs.Layout.{in_code, IsLoadable, LieFrom, is_executable, rounded_low, rounded_end, load_end}
-use Rattle.loop_data.specs.Code.{is_code_of, word_in, word_of, word_at, IsCode}
+use Rattle.elf_image.specs.Layout.{in_code, is_code_of, IsLoadable, LieFrom, is_executable, rounded_low, rounded_end, load_end}
+use Rattle.loop_data.specs.Code.{word_in, word_of, word_at, IsCode}
 
 -- a segment ends below the end of loads
 pub record IsLow (s : Segment) : Type 0 where

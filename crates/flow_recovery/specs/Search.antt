@@ -24,5 +24,7 @@ pub record AreReached (elf : Elf) (found : List ℕ) : Type 0 where
 -- what `at` leads to is found, and also what the word behind it leads to as the second of a pair
 pub record IsVisited (elf : Elf) (old : List ℕ) (at : ℕ) (found : List ℕ) : Type 0 where
   pub alone : HasCodeOf elf found (successors (targets_at elf None at))
-  pub paired : (target : ℕ) → Contains old (before at) → pair_at elf at ≡ Some target → HasCodeOf elf found (successors (targets_at elf (Some target) at))
-  pub behind : (target : ℕ) → Contains old (next_pc at) → pair_at elf (next_pc at) ≡ Some target → HasCodeOf elf found (successors (targets_at elf (Some target) (next_pc at)))
+  pub paired : (target : ℕ) → Contains old (before at) → pair_at elf at ≡ Some target
+      → HasCodeOf elf found (successors (targets_at elf (Some target) at))
+  pub behind : (target : ℕ) → Contains old (next_pc at) → pair_at elf (next_pc at) ≡ Some target
+      → HasCodeOf elf found (successors (targets_at elf (Some target) (next_pc at)))

@@ -1,6 +1,7 @@
 ghost use Rattle.std.specs.Prelude.{◌≡◌, ◌+◌, ◌<◌, ◌≤◌, ◌^◌};
 ghost use Rattle.elf_image.specs.Layout.{IsLoadable, load_end};
-ghost use Rattle.loop_data.specs.Code.{byte_in, word_in, is_code_of, word_at};
+ghost use Rattle.elf_image.specs.Layout.{is_code_of};
+ghost use Rattle.loop_data.specs.Code.{byte_in, word_in, word_at};
 
 use elf_image::{Elf, Segment};
 

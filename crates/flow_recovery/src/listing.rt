@@ -102,7 +102,8 @@ fn push_call(
     requires loadable { IsLoadable elf.now }
     requires found { AreAllReached elf.now found.now.keys }
     requires reached { Reached elf.now at }
-    ensures { OnOk result ((a : ℕ) → Contains starts.new.items a ↔ (Contains starts.old.items a ⊎ IsCall elf.now at a)) }
+    ensures { OnOk result ((a : ℕ) → Contains starts.new.items a ↔ (Contains starts.old.items a
+        ⊎ IsCall elf.now at a)) }
 {
     if let Flow::Call(target) = flow_in(elf, found, at) {
         starts.push(target)?;

@@ -61,7 +61,8 @@ fn add(elf: &Elf, found: &mut IndexSet<u64>, at: u64) -> Result<(), FlowErr>
 fn follow(elf: &Elf, found: &mut IndexSet<u64>, at: u64, pair: Option<u64>) -> Result<(), FlowErr>
     requires loadable { IsLoadable elf.now }
     requires reached { AreReached elf.now found.old.keys }
-    requires leads { (b : ℕ) → Contains (successors (targets_at elf.now pair at)) b → IsCode elf.now b → Reached elf.now b }
+    requires leads { (b : ℕ) → Contains (successors (targets_at elf.now pair at)) b → IsCode elf.now b
+        → Reached elf.now b }
     ensures reached { OnOk result (AreReached elf.now found.new.keys) }
     ensures grows { OnOk result (Grows found.old.keys found.new.keys) }
     ensures has { OnOk result (HasCodeOf elf.now found.new.keys (successors (targets_at elf.now pair at))) }

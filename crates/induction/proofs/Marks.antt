@@ -5,7 +5,7 @@ use Rattle.loop_data.specs.declared.shape.Level.{Level}
 use Rattle.loop_data.specs.Nests.{Nest, has, In, Among, Holds, Edge, IsRank, IsPassTo, IsPass, IsNest}
 use Rattle.loop_data.specs.LoopCode.{LoopCode, writes, any_writes, IsForwardIn}
 use Rattle.loop_data.proofs.Tests.{true_or_false, yes_no}
-use Rattle.induction.specs.Marks.{marked_after, AreMarks}
+use Rattle.induction.specs.Marks.{marked_after, AreWriteMarks}
 
 pub or_true : (a b : Bool) → (a || b) ≡ true → (a ≡ true) ⊎ (b ≡ true)
 or_true true b e = inl refl
@@ -58,7 +58,7 @@ closing (l ∷ ls) u v = by (closing ls u v) (true_or_false (has l.body u)) (cas
 pub record Given (N : Nest) (B : LoopCode) (l : Level) (r : ℕ) (M : ℕ → Bool) : Type 0 where
   pub nest : IsNest N
   pub among : Among N l
-  pub marks : AreMarks N B l r M
+  pub marks : AreWriteMarks N B l r M
 
 -- where the header of an inner loop has the mark, all of its words have it
 inside : (N : Nest) (B : LoopCode) (l m : Level) (r : ℕ) (M : ℕ → Bool) → Given N B l r M → Among N m → Holds l m.header → m.header ≢ l.header → M m.header ≡ true → (rank : ℕ → ℕ) (bound : ℕ) → IsRank N rank bound → (n u : ℕ) → rank u < n → Holds m u → M u ≡ true

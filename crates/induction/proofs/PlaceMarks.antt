@@ -19,7 +19,7 @@ use Rattle.std.proofs.lemmas.List.Elements.{Contains-get_or}
 use Rattle.loop_data.proofs.Steps.{contains_has}
 use Rattle.loop_data.proofs.FlowEdges.{sources_forward, forward_sources, place_of_word}
 use Rattle.induction.specs.declared.words.Words.{Words}
-use Rattle.induction.specs.Marks.{marked_after, AreMarks}
+use Rattle.induction.specs.Marks.{marked_after, AreWriteMarks}
 use Rattle.induction.specs.Masks.{has_bit, place_writes, place_reads, bit_after, all_after, mask_bit}
 use Rattle.induction.specs.Words.{IsLoopOf}
 use Rattle.induction.proofs.MaskBits.{writes_anywhere, reads_anywhere}
@@ -109,7 +109,7 @@ after_here G ls N l V w s p r lp =
     ap (λ t. t || place_writes w.flow.instrs.items p r) (sym (mark_here G ls N l V w s p r lp))
     ∙ ap (λ t. mark_of l.body w.masks.items r (get_or l.body p 0) || t) (writes_at G ls l.body w s.words.flow p r lp)
 
-pub place_marks : (G : Graph) (ls : List Level) (N : Nest) (l : Level) (V : ℕ → ℕ → Option Fact) (w : Words) → IsLoopOf G ls N l V w → (r : ℕ) → r < 32 → AreMarks N (code_of G no_cells) l r (mark_of l.body w.masks.items r)
+pub place_marks : (G : Graph) (ls : List Level) (N : Nest) (l : Level) (V : ℕ → ℕ → Option Fact) (w : Words) → IsLoopOf G ls N l V w → (r : ℕ) → r < 32 → AreWriteMarks N (code_of G no_cells) l r (mark_of l.body w.masks.items r)
 place_marks G ls N l V w s r lr = record { header = header; each = each; some = some }
   where
     M : ℕ → Bool

@@ -10,7 +10,7 @@ marked_after B M u r = M u || writes B u r
 
 -- there is no mark at the header, and elsewhere where it is there after each word from which an edge leads
 -- to the place that closes no loop
-pub record AreMarks (N : Nest) (B : LoopCode) (l : Level) (r : ℕ) (M : ℕ → Bool) : Type 0 where
+pub record AreWriteMarks (N : Nest) (B : LoopCode) (l : Level) (r : ℕ) (M : ℕ → Bool) : Type 0 where
   pub header : M l.header ≡ false
   pub each : (u v : ℕ) → IsForwardIn N l.body u v → v ≢ l.header → M v ≡ true → marked_after B M u r ≡ true
   pub some : (v : ℕ) → Holds l v → v ≢ l.header → M v ≡ false

@@ -41,6 +41,18 @@ impl Model for Form {
     ghost inverse_ok = { λ a h. ap (λ zs. record a { turns = zs }) (three_back a.turns h.three) };
 }
 
+impl Default for Form {
+    ghost is_default = { λ f. f ≡ pure (pos 0) };
+
+    fn default() -> Form {
+        Form {
+            constant: 0,
+            terms: Terms::none(),
+            turns: [0; 3],
+        }
+    }
+}
+
 impl Form {
     /// The form that is this constant, or none where it passes the limits.
     pub fn pure(constant: i64) -> Option<Form>

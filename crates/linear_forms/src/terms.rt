@@ -35,6 +35,14 @@ impl Model for Terms {
     ghost inverse_ok = { λ a h. ap (λ xs. record { list = record { items = xs } }) (pairs_back a.list.items h) };
 }
 
+impl Default for Terms {
+    ghost is_default = { λ ts. ts ≡ [] };
+
+    fn default() -> Terms {
+        Terms::none()
+    }
+}
+
 impl Terms {
     /// No terms.
     pub fn none() -> Terms

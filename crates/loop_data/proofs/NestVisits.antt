@@ -4,6 +4,7 @@ use Rattle.std.specs.List.{AllPairs}
 use Rattle.std.proofs.lemmas.List.Kept.{AllPairs-from_increasing}
 use Rattle.rv64_decode.specs.Area.{Area, fetch_of}
 use Rattle.rv64_decode.specs.Ask.{answer}
+use Rattle.rv64_decode.specs.Fetched.{instr_in}
 use Rattle.rv64_decode.specs.Range.{IsInRange, AreWords, AreBytes}
 use Rattle.rv64_decode.specs.Registers.{register}
 use Rattle.rv64_decode.specs.Row.{row, asks, next_pc, plus_offset, onward, jump, stopped, loaded, stored, taken}
@@ -26,7 +27,7 @@ use Rattle.loop_data.specs.Nests.{Nest, has, In, levels, Among, Edge, nest_of, I
 use Rattle.loop_data.specs.LoopWords.{next_words, IsPlainInstr, IsLoopWord, AreNest}
 use Rattle.loop_data.specs.LoopCode.{LoopCode, instr_among, code_of, IsForwardIn}
 use Rattle.loop_data.specs.Locations.{CellMap}
-use Rattle.loop_data.specs.Runs.{State, run, step, stepped, fetched, performed, read_word, instr, instr_of, walk, pc_in, goes_at}
+use Rattle.loop_data.specs.Runs.{State, run, step, stepped, fetched, performed, instr, instr_of, walk, pc_in, goes_at}
 use Rattle.loop_data.specs.Executing.{AreProgramWords, Executes}
 use Rattle.loop_data.proofs.Tests.{eq_of, ne_of, is_eq, is_ne, yes_no}
 use Rattle.loop_data.proofs.Steps.{Within, within_at, leads_is, has_contains}
@@ -68,7 +69,7 @@ found_instr G u i order m =
     subst (λ x. instr_among G.words x ≡ i) m.at (found_among G.words m.word (AllPairs-from_increasing _ order) (within_at G.words m.word c.0 c.1 c.2) ∙ m.means)
 
 -- an instruction that a state fetches is executed
-fetched_is : (o : Result ℕ MemFault) (i : Instr) (u : ℕ) (regs : List ℕ) (m : List Area) → read_word o ≡ Some i → fetched o u regs m ≡ performed i u regs m
+fetched_is : (o : Result ℕ MemFault) (i : Instr) (u : ℕ) (regs : List ℕ) (m : List Area) → instr_in o ≡ Some i → fetched o u regs m ≡ performed i u regs m
 fetched_is (Ok w) i u regs m e = go (decoded w) e
   where
     go : (o : Option Instr) → o ≡ Some i → Rattle.loop_data.specs.Runs.executed w o u regs m ≡ performed i u regs m

@@ -3,7 +3,7 @@
 use Rattle.std.specs.Prelude.{ℕ, ◌==◌, ◌+◌, ◌-◌, ◌*◌, ◌%◌, ◌^◌, Bool, ◌&&◌, nat_le, nat_lt, if◌then◌else◌, List, [], ◌∷◌, slice_index, Option, Some, None, is_some, IsTrue}
 use Rattle.elf_image.specs.declared.image.Segment.{Segment}
 use Rattle.elf_image.specs.declared.image.Elf.{Elf}
-use Rattle.elf_image.specs.Layout.{is_executable, rounded_low, rounded_end}
+use Rattle.elf_image.specs.Layout.{is_code_of}
 
 -- the byte at an address of a segment's area: that of the file, or 0 where the file has none
 abbrev pub byte_in : Segment → ℕ → ℕ
@@ -13,10 +13,6 @@ byte_in s addr = if nat_lt addr s.vaddr then 0 else slice_index s.bytes (addr - 
 unfoldable pub word_in : Segment → ℕ → ℕ
 word_in s addr =
     byte_in s addr + 2 ^ 8 * byte_in s (addr + 1) + 2 ^ 16 * byte_in s (addr + 2) + 2 ^ 24 * byte_in s (addr + 3)
-
--- the address lies in the area of an executable segment
-abbrev pub is_code_of : Segment → ℕ → Bool
-is_code_of s addr = is_executable s && (nat_le (rounded_low s) addr && nat_lt addr (rounded_end s))
 
 -- the word at an address of an executable area
 abbrev pub word_of : List Segment → ℕ → Option ℕ

@@ -1,5 +1,6 @@
 -- Turns that do not depend on each other.
 use Rattle.std.specs.Prelude.{ℕ, suc, ◌≡◌, ◌≢◌, ◌≤◌, ◌<◌, Bool, true, false, ◌∷◌, Some, ℤ, pos, ◌+ℤ◌, ◌*ℤ◌}
+use Rattle.rv64_decode.specs.Fetched.{instr_at}
 use Rattle.rv64_decode.specs.Area.{bytes_of}
 use Rattle.rv64_decode.specs.Ask.{Ask, Nothing, Loads, Stores}
 use Rattle.rv64_decode.specs.declared.memory.Width.{Width}
@@ -7,7 +8,7 @@ use Rattle.linear_forms.specs.Forms.{word_of}
 use Rattle.loop_data.specs.declared.shape.Level.{Level}
 use Rattle.loop_data.specs.declared.verdict.Cell.{Cell}
 use Rattle.loop_data.specs.Nests.{has}
-use Rattle.loop_data.specs.Runs.{State, run, walk, goes_at, instr_at, instr, access}
+use Rattle.loop_data.specs.Runs.{State, run, walk, goes_at, instr, access}
 use Rattle.loop_data.specs.Turns.{arrives, turn, seen, IsArrival, covers, loads_byte, stores_byte, Reads, Writes}
 use Rattle.loop_data.specs.Locations.{CellMap, cell_at, address, width_of, value_of, word_reads, some_writes}
 

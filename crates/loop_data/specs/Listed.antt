@@ -48,7 +48,8 @@ pub record IsLeastStart (G : Graph) (g u from to : ℕ) : Type 0 where
 -- the verdict of a listed edge
 abbrev pub HasVerdict : Graph → ℕ → ℕ → Verdict → Type 0
 HasVerdict G g u (Limit at) = (at ≡ g) × ¬ HasAtMost 256 (InPart G g u)
-HasVerdict G g u (MultiEntry from to) = HasAtMost 256 (InPart G g u) × (IsLeastEntrance G g u from to ⊎ IsLeastStart G g u from to)
+HasVerdict G g u (MultiEntry from to) = HasAtMost 256 (InPart G g u)
+    × (IsLeastEntrance G g u from to ⊎ IsLeastStart G g u from to)
 HasVerdict G g u _ = ⊥
 
 -- one of the listed edges to g passes the limit

@@ -105,7 +105,8 @@ pub record AreNested (N : Nest) : Type 0 where
   pub apart : (l m : Level) → Among N l → Among N m → Holds m l.header → Holds l m.header → l ≡ m
   -- of the loops round a word there is one of each depth, and the deeper lies in the other
   pub alone : (l m : Level) → Among N l → Among N m → l.depth ≡ m.depth → (x : ℕ) → Holds l x → Holds m x → l ≡ m
-  pub deeper : (l m : Level) → Among N l → Among N m → l.depth < m.depth → (x : ℕ) → Holds l x → Holds m x → Holds l m.header
+  pub deeper : (l m : Level) → Among N l → Among N m → l.depth < m.depth → (x : ℕ) → Holds l x → Holds m x
+      → Holds l m.header
   -- the depths: the root's is 0, and that of no other; the others' are 1 and 2, and one of 2 lies in one of 1
   pub outermost : N.root.depth ≡ 0
   pub inner_deep : (l : Level) → In N.inner l → l.depth ≢ 0

@@ -1,13 +1,15 @@
 -- What the passes over a loop and its inner loops give.
-use Rattle.std.specs.Prelude.{ℕ, ◌≡◌, ◌≢◌, ◌<◌, ◌≤◌, ◌⊎◌, true, List, ◌∷◌, length, map, Option, Some, None, slice_index, slice_index_or, ℤ}
+use Rattle.std.specs.Prelude.{ℕ, ◌≡◌, ◌≢◌, ◌<◌, ◌≤◌, ◌⊎◌, true, List, [], ◌∷◌, length, map, Option, Some, None, slice_index, slice_index_or, ℤ}
 use Rattle.std.specs.List.{Contains}
 use Rattle.std.specs.List.Sorted.{IsStrictlyIncreasing}
-use Rattle.linear_forms.specs.Forms.{LinearForm}
+use Rattle.linear_forms.specs.Forms.{LinearForm, is_small}
 use Rattle.linear_forms.specs.Locations.{number_of, IsLocation}
 use Rattle.linear_forms.specs.declared.location.Loc.{Loc}
 use Rattle.loop_data.specs.declared.equations.Duty.{Duty}
 use Rattle.loop_data.specs.declared.equations.Equations.{Equations}
 use Rattle.loop_data.specs.declared.equations.Point.{Point}
+use Rattle.loop_data.specs.declared.classes.Class.{Class}
+use Rattle.loop_data.specs.declared.classes.Class.TheVariants.{Induction}
 use Rattle.loop_data.specs.declared.classes.Classes.{Classes}
 use Rattle.loop_data.specs.declared.graph.Graph.{Graph}
 use Rattle.loop_data.specs.declared.shape.Level.{Level}
@@ -27,6 +29,14 @@ pub record IsNestOf (G : Graph) (levels : List Level) (N : Nest) : Type 0 where
   pub inner : List Level
   pub are : levels ≡ root ∷ inner
   pub is : N ≡ nest_of G root inner
+
+-- the steps of inductions are small enough for a form
+abbrev pub AreSmall : List (Option Class) → Type 0
+AreSmall row = (r : ℕ) (step : ℤ) → slice_index_or row r None ≡ Some (Induction step) → is_small step ≡ true
+
+pub record AreSmallSteps (c : Classes) : Type 0 where
+  pub root : AreSmall c.root
+  pub inner : (i : ℕ) → AreSmall (slice_index_or c.inner i [])
 
 -- the facts at each word of the loop at a place among the levels
 pub record AreFactsOf (G : Graph) (levels : List Level) (C : CellMap) (level : ℕ) (values : List Values)

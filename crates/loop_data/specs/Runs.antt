@@ -3,6 +3,7 @@
 use Rattle.std.specs.Prelude.{ℕ, zero, suc, Bool, false, List, Option, Some, None, Result, Ok, Err}
 use Rattle.rv64_decode.specs.Area.{Area, fetch_of}
 use Rattle.rv64_decode.specs.Ask.{Ask, Nothing, answer, after}
+use Rattle.rv64_decode.specs.Fetched.{instr_at}
 use Rattle.rv64_decode.specs.Table.{decoded}
 use Rattle.rv64_decode.specs.Row.{asks, outcome}
 use Rattle.rv64_decode.specs.declared.memory.MemFault.{MemFault}
@@ -17,14 +18,7 @@ pub record State : Type 0 where
   pub regs : List ℕ
   pub memory : List Area
 
-abbrev pub read_word : Result ℕ MemFault → Option Instr
-read_word (Ok word) = decoded word
-read_word (Err why) = None
-
--- the instruction whose word stands at an address of memory
-abbrev pub instr_at : List Area → ℕ → Option Instr
-instr_at m pc = read_word (fetch_of m pc)
-
+-- the instruction at the word where the run goes on, if it goes on
 abbrev pub instr_of : Next → List Area → Option Instr
 instr_of (At pc) m = instr_at m pc
 instr_of Call m = None

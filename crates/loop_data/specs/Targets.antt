@@ -103,7 +103,8 @@ targets_at elf pair at = targets_from (word_at elf at) at (asks_exit (instr_at e
 -- sum of the auipc's address and both immediates, with bit 0 cleared
 abbrev pub pair_by : Instr → Instr → ℕ → Option ℕ
 pair_by (Upper Auipc base high) (Jalr rd rs1 low) at =
-    let target = plus_offset (plus_offset (before at) high) low in if base == rs1 then Some (target - target % 2) else None
+    let target = plus_offset (plus_offset (before at) high) low in
+    if base == rs1 then Some (target - target % 2) else None
 pair_by _ _ at = None
 
 abbrev pub pair_of : Option Instr → Option Instr → ℕ → Option ℕ

@@ -180,7 +180,7 @@ fn add_word(
 }
 
 /// Rows without numbers.
-fn empty_rows(alloc: Global, count: usize) -> Result<Vec<Vec<usize>>, AllocError>
+pub fn empty_rows(alloc: Global, count: usize) -> Result<Vec<Vec<usize>>, AllocError>
     ensures { IfOk result (λ v. rows v.items ≡ replicate count []) }
 {
     let mut all = Vec::with_capacity(alloc, count)?;
@@ -276,7 +276,7 @@ fn sweep(
 }
 
 /// Flags that are not set.
-fn unset_flags(alloc: Global, count: usize) -> Result<Vec<bool>, AllocError>
+pub fn unset_flags(alloc: Global, count: usize) -> Result<Vec<bool>, AllocError>
     ensures { IfOk result (λ v. v.items ≡ replicate count false) }
 {
     let mut all = Vec::with_capacity(alloc, count)?;

@@ -2,7 +2,7 @@ use linear_forms::Loc;
 
 /// A cell of memory that a loop uses as a register: 4 or 8 bytes at a known address, or at an offset
 /// from a register that the loop does not write.
-#[derive(Clone, Copy, PartialEq, Eq, Debug)]
+#[derive(Clone, Copy, PartialEq, Eq, Debug, Default)]
 pub struct Cell {
     /// The register, or none where the offset is the address.
     pub base: Option<u8>,

@@ -1,12 +1,13 @@
 -- What does not fit the loops of the samples: each part of a definition that refuses something.
 use Rattle.std.proofs.Common.{◌≡◌, ℕ, suc, ◌≤◌, true, false, None, ◌∷◌, refl, sym, ◌∙◌, arith, pos}
 use Rattle.std.proofs.lemmas.Int.{ints}
+use Rattle.rv64_decode.specs.Fetched.{instr_at}
 use Rattle.rv64_decode.specs.declared.memory.Width.TheVariants.{Four}
 use Rattle.linear_forms.specs.Forms.{Alike}
 use native.Mathlib.Decide.{dec_le}
 use Rattle.loop_data.specs.declared.shape.Level.{Level}
 use Rattle.loop_data.specs.Nests.{has}
-use Rattle.loop_data.specs.Runs.{State, step, run, walk, goes_at, instr_at, access}
+use Rattle.loop_data.specs.Runs.{State, step, run, walk, goes_at, access}
 use Rattle.loop_data.specs.Turns.{arrives, turn, seen, stores_byte, Stays}
 use Rattle.loop_data.specs.Locations.{no_cells, some_writes}
 use Rattle.loop_data.specs.Independent.{Private, IsAccess, AreTurns, AreCells, HaveRoles}

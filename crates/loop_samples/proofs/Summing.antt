@@ -3,8 +3,9 @@ use Rattle.std.proofs.Common.{◌≡◌, ℕ, ◌<◌, Bool, true, false, refl, 
 use Rattle.std.proofs.lemmas.Int.{ints}
 use Rattle.linear_forms.specs.Forms.{Alike, word_of}
 use Rattle.linear_forms.proofs.Sums.{word_alike}
+use Rattle.rv64_decode.specs.Fetched.{instr_at}
 use Rattle.rv64_decode.specs.Ask.{Ask, Nothing, Loads, Stores}
-use Rattle.loop_data.specs.Runs.{step, run, walk, instr, instr_at, access}
+use Rattle.loop_data.specs.Runs.{step, run, walk, instr, access}
 use Rattle.loop_data.specs.Turns.{turn, seen, IsArrival, stores_byte, Writes}
 use Rattle.loop_data.specs.Locations.{no_cells, value_of, word_reads, some_writes}
 use Rattle.loop_data.specs.Independent.{Role, Keeps, Moves, Private, AreTurns, AreApart, HaveRoles}

@@ -2,6 +2,7 @@
 use Rattle.std.proofs.Common.{◌≡◌, ◌≢◌, ℕ, zero, suc, ◌+◌, ◌<◌, ◌≤◌, List, [], ◌∷◌, Bool, true, false, ◌&&◌, ◌||◌, not, length, Option, Some, None, refl, ap, ◌∙◌, subst, arith, ◌==◌, nat_lt, nat_le, pos, ℤ, ◌+ℤ◌, ◌*ℤ◌}
 use Rattle.std.proofs.lemmas.Bool.Decides.{nat_tests}
 use native.Mathlib.Decide.{dec_le}
+use Rattle.rv64_decode.specs.Fetched.{instr_at}
 use Rattle.rv64_decode.specs.Area.{bytes_of}
 use Rattle.rv64_decode.specs.Ask.{Ask, Nothing, Loads, Stores}
 use Rattle.rv64_decode.specs.declared.outcome.Next.{Next}
@@ -12,7 +13,7 @@ use Rattle.loop_data.specs.declared.verdict.Cell.{Cell}
 use Rattle.linear_forms.specs.Forms.{word_of}
 use Rattle.loop_data.specs.declared.shape.Level.{Level}
 use Rattle.loop_data.specs.Nests.{has}
-use Rattle.loop_data.specs.Runs.{State, step, run, walk, pc_in, goes_at, instr, instr_at, access}
+use Rattle.loop_data.specs.Runs.{State, step, run, walk, pc_in, goes_at, instr, access}
 use Rattle.loop_data.specs.Turns.{arrives, turn, seen, IsArrival, covers, loads_byte, stores_byte}
 use Rattle.loop_data.specs.Locations.{CellMap, no_cells, cell_at, address, width_of, value_of, word_reads, some_writes}
 use Rattle.loop_data.specs.Independent.{Role, Keeps, Moves, Private, IsAccess, in_cell, AreTurns, AreCells, HaveRoles}

@@ -10,7 +10,7 @@ use Rattle.loop_data.specs.declared.graph.Graph.{Graph}
 use Rattle.loop_data.specs.Paths.{addresses, IsInOrder, Leads, Reaches, IsWord}
 use Rattle.loop_data.specs.Sets.{HasAtMost}
 use Rattle.loop_data.specs.Bodies.{IsClosed, InBody, InPart, ReachesPast}
-use Rattle.loop_data.specs.Shape.{IsOneBack, IsOneExit, IsSide, Leaves}
+use Rattle.loop_data.specs.Shape.{IsOneBack, IsOneExit, IsSide, LeavesBy}
 use Rattle.loop_data.proofs.Lists.{In, to_in, pigeons}
 use Rattle.loop_data.proofs.Ways.{stop, step, backward, starts_in, ends_in}
 use Rattle.loop_shapes.specs.Astray.{LeadsAstray}
@@ -163,12 +163,12 @@ module _ (G : Graph) (up : IsInOrder G) (h : ℕ) (places : List ℕ) (a : AreAt
 
 -- a word of at most two edges, of which one stays, is left by one edge
 pub one_edge : (G : Graph) (h x : ℕ) (steps : List ℕ) → length steps ≤ 2 → ((y : ℕ) → Contains steps y ↔ Leads G x y) → IsLeftOnlyFrom G h x → IsSide G h x → (to : ℕ) × IsOneExit G h (x, to)
-one_edge G h x steps few exact l s = (l.left.to, record { leaves = l.left.leaves; only = λ from to m. (l.only from (record { to = to; leaves = m }), same to (subst (λ (z : ℕ). Leaves G h z to) (l.only from (record { to = to; leaves = m })) m) (cases_eq to l.left.to)) })
+one_edge G h x steps few exact l s = (l.left.to, record { leaves = l.left.leaves; only = λ from to m. (l.only from (record { to = to; leaves = m }), same to (subst (λ (z : ℕ). LeavesBy G h z to) (l.only from (record { to = to; leaves = m })) m) (cases_eq to l.left.to)) })
   where
-    stays : (y : ℕ) → Leaves G h x y → y ≢ s.side
+    stays : (y : ℕ) → LeavesBy G h x y → y ≢ s.side
     stays y m e = m.outside (subst (InBody G h) (sym e) s.inside)
 
-    same : (to : ℕ) → Leaves G h x to → (to ≡ l.left.to) ⊎ (to ≢ l.left.to) → to ≡ l.left.to
+    same : (to : ℕ) → LeavesBy G h x to → (to ≡ l.left.to) ⊎ (to ≢ l.left.to) → to ≡ l.left.to
     same to m (inl e) = e
     same to m (inr ne) =
         let more : length (to ∷ l.left.to ∷ s.side ∷ []) ≤ length steps = pigeons (to ∷ l.left.to ∷ s.side ∷ []) steps (first, (second, ((λ i. i), tt))) inside in

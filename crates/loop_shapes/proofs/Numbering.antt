@@ -59,13 +59,13 @@ module _ (G : Graph) (up : IsInOrder G) (nodes : List Successors) (n : AreNodes 
   reached_from [] a b p = subst (λ (q : ℕ). LeadsFar G (at G a) (at G q)) p (stop (Leads G) (λ _. ⊤) (at G a) tt)
   reached_from (x ∷ xs) a b p = step (Leads G) (λ _. ⊤) (at G a) (at G x) (at G b) tt (n.each a x p.0).2 (reached_from xs x b p.1)
 
-  pub reached_to : (a b : ℕ) → a < count_of G → b < count_of G → LeadsFar G (at G a) (at G b) → graphs.Reaches nodes a b
+  pub reached_to : (a b : ℕ) → a < count_of G → b < count_of G → LeadsFar G (at G a) (at G b) → graphs.HasPath nodes a b
   reached_to a b la lb r =
       let t = backward (Leads G) (λ _. ⊤) Here (at G b) (b, lb, refl, record { through = []; path = refl }) prior (at G a) r in
-      subst (λ (q : ℕ). graphs.Reaches nodes q b) (same_place (addresses G) up t.0 a t.1 la t.2) t.3
+      subst (λ (q : ℕ). graphs.HasPath nodes q b) (same_place (addresses G) up t.0 a t.1 la t.2) t.3
     where
       Here : ℕ → Type 0
-      Here y = (i : ℕ) × (i < count_of G) × (at G i ≡ y) × graphs.Reaches nodes i b
+      Here y = (i : ℕ) × (i < count_of G) × (at G i ≡ y) × graphs.HasPath nodes i b
 
       prior : (x y : ℕ) → ⊤ → Leads G x y → ⊤ → Here y → Here x
       prior x y tx lead ty t =
@@ -73,7 +73,7 @@ module _ (G : Graph) (up : IsInOrder G) (nodes : List Successors) (n : AreNodes 
           let edge = subst (λ (q : ℕ). Leads G q (at G t.0)) (sym p.is) (subst (Leads G x) (sym t.2) lead) in
           (p.place, p.within, p.is, record { through = t.0 ∷ t.3.through; path = (n.every p.place t.0 p.within t.1 edge, t.3.path) })
 
-  pub same_number : (a b : ℕ) → a < count_of G → b < count_of G → (graphs.Reaches nodes a b × graphs.Reaches nodes b a) ↔ (LeadsFar G (at G a) (at G b) × LeadsFar G (at G b) (at G a))
+  pub same_number : (a b : ℕ) → a < count_of G → b < count_of G → (graphs.HasPath nodes a b × graphs.HasPath nodes b a) ↔ (LeadsFar G (at G a) (at G b) × LeadsFar G (at G b) (at G a))
   same_number a b la lb = (λ p. (reached_from p.0.through a b p.0.path, reached_from p.1.through b a p.1.path), λ p. (reached_to a b la lb p.0, reached_to b a lb la p.1))
 
 get_left : (xs : List Successors) (v : Successors) (i : ℕ) → i < length xs → slice_get (xs ++ v ∷ []) i ≡ slice_get xs i
@@ -144,7 +144,7 @@ nodes_none G = (refl, λ a b. (λ x. none x.node x.is, λ p. let l = p.0 in absu
 pub nodes_all : (G : Graph) (n : ℕ) (nodes : List Successors) → n ≡ count_of G → HasEdgesBelow G n nodes → AreNodes G nodes
 nodes_all G n nodes e h = record { count = h.0 ∙ e; each = λ a b x. let p = (h.1 a b).0 x in (subst (λ (k : ℕ). a < k) e p.0, p.1, p.2); every = λ a b la lb lead. (h.1 a b).1 (subst (λ (k : ℕ). a < k) (sym e) la, lb, lead) }
 
-pub numbers_by : (G : Graph) → IsInOrder G → (nodes : List Successors) → AreNodes G nodes → (given : List Successors) (numbers : List ℕ) → given ≡ nodes → length numbers ≡ count_of G → ((a b : ℕ) → a < length given → b < length given → (slice_index numbers a ≡ slice_index numbers b) ↔ (graphs.Reaches given a b × graphs.Reaches given b a)) → AreNumbers G numbers
+pub numbers_by : (G : Graph) → IsInOrder G → (nodes : List Successors) → AreNodes G nodes → (given : List Successors) (numbers : List ℕ) → given ≡ nodes → length numbers ≡ count_of G → ((a b : ℕ) → a < length given → b < length given → (slice_index numbers a ≡ slice_index numbers b) ↔ (graphs.HasPath given a b × graphs.HasPath given b a)) → AreNumbers G numbers
 numbers_by G up nodes n given numbers e count same = record { count = count; same = one }
   where
     one : (a b : ℕ) → a < count_of G → b < count_of G → (slice_index numbers a ≡ slice_index numbers b) ↔ (LeadsFar G (at G a) (at G b) × LeadsFar G (at G b) (at G a))
@@ -152,4 +152,4 @@ numbers_by G up nodes n given numbers e count same = record { count = count; sam
         let c = ap length e ∙ n.count in
         let s = same a b (omega arith) (omega arith) in
         let t = same_number G up nodes n a b la lb in
-        (λ q. t.0 (subst (λ (gs : List Successors). graphs.Reaches gs a b × graphs.Reaches gs b a) e (s.0 q)), λ p. s.1 (subst (λ (gs : List Successors). graphs.Reaches gs a b × graphs.Reaches gs b a) (sym e) (t.1 p)))
+        (λ q. t.0 (subst (λ (gs : List Successors). graphs.HasPath gs a b × graphs.HasPath gs b a) e (s.0 q)), λ p. s.1 (subst (λ (gs : List Successors). graphs.HasPath gs a b × graphs.HasPath gs b a) (sym e) (t.1 p)))

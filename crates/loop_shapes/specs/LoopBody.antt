@@ -5,7 +5,7 @@ use Rattle.strong_components.specs.Graph.{IsEdge}
 use Rattle.strong_components.specs.declared.graph.Successors.{Successors}
 use Rattle.loop_data.specs.declared.graph.Graph.{Graph}
 use Rattle.loop_data.specs.Bodies.{InBody}
-use Rattle.loop_data.specs.Shape.{Leaves, HasOwnShape}
+use Rattle.loop_data.specs.Shape.{LeavesBy, HasOwnShape}
 use Rattle.loop_shapes.specs.declared.loop_body.LoopBody.{LoopBody}
 use Rattle.loop_shapes.specs.Net.{AreAt}
 use Rattle.loop_shapes.specs.Outer.{IsAcyclic}
@@ -46,7 +46,7 @@ pub record LeadsOut (places : List ℕ) (target : Option ℕ) : Type 0 where
 -- an edge from x leaves the loop at h
 pub record IsLeftFrom (G : Graph) (h x : ℕ) : Type 0 where
   pub to : ℕ
-  pub leaves : Leaves G h x to
+  pub leaves : LeavesBy G h x to
 
 -- edges leave the loop at h from x, and from no other word
 pub record IsLeftOnlyFrom (G : Graph) (h x : ℕ) : Type 0 where

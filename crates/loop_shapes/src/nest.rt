@@ -58,7 +58,8 @@ fn acyclic_flags(
     requires program { IsProgram program.now }
     requires count { length slots.old ≡ count_of (program_graph program.now) }
     requires others { IsPlaceSet (count_of (program_graph program.now)) others.old }
-    ensures flags { IfOk result (λ v. AreKnown (program_graph program.now) (IsAcyclic (program_graph program.now)) v.items) }
+    ensures flags { IfOk result (λ v. AreKnown (program_graph program.now) (IsAcyclic
+        (program_graph program.now)) v.items) }
     ensures others { OnOk result (IsPlaceSet (count_of (program_graph program.now)) others.new) }
 {
     let mut all = Vec::new(alloc);

@@ -13,7 +13,8 @@ use Rattle.loop_data.specs.LoopCode.{LoopCode, writes, any_writes}
 use Rattle.loop_data.specs.Equations.{header_form}
 use Rattle.loop_data.specs.Lookups.{classes_of, role_by}
 use Rattle.register_equations.specs.Rows.{forms_in}
-use Rattle.register_equations.specs.States.{AreSmall, AreSmallSteps, IsFree, IsHeaderForm}
+use Rattle.register_equations.specs.States.{IsFree, IsHeaderForm}
+use Rattle.loop_data.specs.Results.{AreSmall, AreSmallSteps}
 
 -- where a first form does not come along all edges, none does
 pub met_differs : (P : ℕ → LinearForm → Type 0) (ks : List ℕ) (o : Option LinearForm) (g : LinearForm) (d : ℕ) → 1 ≤ length ks → ((f : LinearForm) → (o ≡ Some f) ↔ P (get_or ks 0 d) f) → o ≡ Some g → (IsTrue false ↔ All (λ k. P k g) ks)

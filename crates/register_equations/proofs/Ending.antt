@@ -21,7 +21,7 @@ use Rattle.loop_data.specs.Results.{IsNestOf}
 use Rattle.loop_data.proofs.Steps.{contains_has}
 use Rattle.loop_data.proofs.FlowEdges.{forward_sources, place_of_word}
 use Rattle.loop_data.proofs.ValuePlaces.{some_source}
-use Rattle.register_equations.specs.States.{no_forms, point_at, IsPlace, IsSetAt, AreSolvedPoints}
+use Rattle.register_equations.specs.States.{no_forms, point_at, IsFormPlace, AreFormsSet, AreSolvedPoints}
 use Rattle.register_equations.proofs.Placed.{more_places}
 use Rattle.register_equations.proofs.Solving.{solved}
 
@@ -31,7 +31,7 @@ ats_kept [] p forms = refl
 ats_kept (x ∷ xs) zero forms = refl
 ats_kept (x ∷ xs) (suc p) forms = ap (λ ys. x.at ∷ ys) (ats_kept xs p forms)
 
-pub set_ats : (B : LoopCode) (levels inner : List Level) (root : Level) (c : Classes) (rs : List (List ℕ)) (instrs : List (Option Instr)) (p : ℕ) (old new : List Point) → IsSetAt B levels inner root c rs instrs p old new → map (λ (v : Point). v.at) new ≡ map (λ (v : Point). v.at) old
+pub set_ats : (B : LoopCode) (levels inner : List Level) (root : Level) (c : Classes) (rs : List (List ℕ)) (instrs : List (Option Instr)) (p : ℕ) (old new : List Point) → AreFormsSet B levels inner root c rs instrs p old new → map (λ (v : Point). v.at) new ≡ map (λ (v : Point). v.at) old
 set_ats B levels inner root c rs instrs p old new s = ap (λ (ps : List Point). map (λ (v : Point). v.at) ps) s.is ∙ ats_kept old p s.state
 
 pub counted : (ps : List Point) (body : List ℕ) → map (λ (v : Point). v.at) ps ≡ body → length ps ≡ length body
@@ -39,7 +39,7 @@ counted ps body e = sym (length-map ps (λ (p : Point). p.at)) ∙ ap (λ (xs : 
 
 -- one place more of an order
 pub place_more : (B : LoopCode) (levels inner : List Level) (root : Level) (c : Classes) (rs : List (List ℕ)) (instrs : List (Option Instr)) (order : List ℕ) (i : ℕ) (old new : List Point) → IsOrder rs order → length rs ≡ length old → i < length order
-    → IsSetAt B levels inner root c rs instrs (get_or order i 0) old new → ((j : ℕ) → j < i → IsPlace B levels inner root c rs instrs old (get_or order j 0)) → (j : ℕ) → j < i + 1 → IsPlace B levels inner root c rs instrs new (get_or order j 0)
+    → AreFormsSet B levels inner root c rs instrs (get_or order i 0) old new → ((j : ℕ) → j < i → IsFormPlace B levels inner root c rs instrs old (get_or order j 0)) → (j : ℕ) → j < i + 1 → IsFormPlace B levels inner root c rs instrs new (get_or order j 0)
 place_more B levels inner root c rs instrs order i old new o n l s before =
     more_places B levels inner root c rs instrs order i old new l (let w = o.within i l in omega arith)
     (λ j k m k_in e. let r = o.after j k (omega arith) k_in in let lt = r.1 in o.once r.0 i (omega arith) l (r.2 ∙ e))
@@ -86,16 +86,16 @@ row_some G ls nest root inner split flow ps p f words l ne = by (heads nest.root
 
 -- the forms solve the equations of the nest
 pub all_solved : (G : Graph) (ls : List Level) → AreNest G ls → (root : Level) (inner : List Level) → ls ≡ root ∷ inner → (c : Classes) (flow : Flow) (ps : List Point) → IsFlow G ls root.body flow → map (λ (v : Point). v.at) ps ≡ root.body
-    → ((j : ℕ) → j < length flow.order.items → IsPlace (code_of G no_cells) ls inner root c (rows flow.sources.items) flow.instrs.items ps (get_or flow.order.items j 0)) → AreSolvedPoints G ls c ps
+    → ((j : ℕ) → j < length flow.order.items → IsFormPlace (code_of G no_cells) ls inner root c (rows flow.sources.items) flow.instrs.items ps (get_or flow.order.items j 0)) → AreSolvedPoints G ls c ps
 all_solved G ls nest root inner split c flow ps f words right = by (heads root nest.root inner nest.inner (sym split ∙ nest.are)) (tails root nest.root inner nest.inner (sym split ∙ nest.are))
   where
     by : root ≡ nest.root → inner ≡ nest.inner → AreSolvedPoints G ls c ps
     by e d =
         let w : map (λ (v : Point). v.at) ps ≡ nest.root.body = words ∙ ap (λ (z : Level). z.body) e in
         let g = subst (λ (z : Level). IsFlow G ls z.body flow) e f in
-        let r : (j : ℕ) → j < length flow.order.items → IsPlace (code_of G no_cells) ls nest.inner nest.root c (rows flow.sources.items) flow.instrs.items ps (get_or flow.order.items j 0) =
-        λ j l. subst (λ (z : Level). IsPlace (code_of G no_cells) ls nest.inner z c (rows flow.sources.items) flow.instrs.items ps (get_or flow.order.items j 0)) e
-        (subst (λ (zs : List Level). IsPlace (code_of G no_cells) ls zs root c (rows flow.sources.items) flow.instrs.items ps (get_or flow.order.items j 0)) d (right j l)) in
+        let r : (j : ℕ) → j < length flow.order.items → IsFormPlace (code_of G no_cells) ls nest.inner nest.root c (rows flow.sources.items) flow.instrs.items ps (get_or flow.order.items j 0) =
+        λ j l. subst (λ (z : Level). IsFormPlace (code_of G no_cells) ls nest.inner z c (rows flow.sources.items) flow.instrs.items ps (get_or flow.order.items j 0)) e
+        (subst (λ (zs : List Level). IsFormPlace (code_of G no_cells) ls zs root c (rows flow.sources.items) flow.instrs.items ps (get_or flow.order.items j 0)) d (right j l)) in
         let s = solved G ls nest c flow ps g w r in
         record { words = λ M n. w ∙ ap (λ (z : Nest). z.root.body) (is M n); forms = λ M n. subst (λ (z : Nest). AreForms z (code_of G no_cells) (roles_by (code_of G no_cells) ls c) (form_at ps)) (is M n) s }
       where

@@ -11,24 +11,24 @@ use Rattle.loop_data.specs.declared.shape.Level.{Level}
 use Rattle.loop_data.specs.LoopCode.{LoopCode}
 use Rattle.loop_data.specs.Flows.{row_at}
 use Rattle.register_equations.specs.Rows.{forms_in}
-use Rattle.register_equations.specs.States.{no_forms, point_at, past, IsKept, Comes, IsMet, IsHeaderForm, IsState, IsPlace, IsSetAt}
+use Rattle.register_equations.specs.States.{no_forms, point_at, past, IsKept, Comes, IsMet, IsHeaderForm, AreFormsAt, IsFormPlace, AreFormsSet}
 
 pub default_at : (ps : List Point) (p : ℕ) (x : Point) → p < length ps → (get_or ps p x).at ≡ (point_at ps p).at
 default_at ps p x l = ap (λ (y : Point). y.at) (get_or_default ps p x no_forms l)
 
 pub inner_state : (B : LoopCode) (levels inner : List Level) (root : Level) (c : Classes) (instrs : List (Option Instr)) (points : List Point) (xs ys : List ℕ) (u v : ℕ) (state : List (Option LinearForm)) (l : Level) → Contains inner l → u ≡ l.header → u ≢ root.header
-    → length state ≡ 48 → ((r : ℕ) → r < 48 → IsHeaderForm B levels c l (IsMet inner instrs points xs u r) r (forms_in state r)) → xs ≡ ys → u ≡ v → IsState B levels inner root c instrs points ys v state
+    → length state ≡ 48 → ((r : ℕ) → r < 48 → IsHeaderForm B levels c l (IsMet inner instrs points xs u r) r (forms_in state r)) → xs ≡ ys → u ≡ v → AreFormsAt B levels inner root c instrs points ys v state
 inner_state B levels inner root c instrs points xs ys u v state l i h ne n all e at =
-    subst (λ zs. IsState B levels inner root c instrs points zs v state) e (subst (λ w. IsState B levels inner root c instrs points xs w state) at (record {
+    subst (λ zs. AreFormsAt B levels inner root c instrs points zs v state) e (subst (λ w. AreFormsAt B levels inner root c instrs points xs w state) at (record {
       count = n;
       first = λ q. absurd (ne q);
       other = λ q. inl (l, i, h, all);
     }))
 
 pub met_state : (B : LoopCode) (levels inner : List Level) (root : Level) (c : Classes) (instrs : List (Option Instr)) (points : List Point) (xs ys : List ℕ) (u v : ℕ) (state : List (Option LinearForm)) → ((l : Level) → Contains inner l → u ≢ l.header) → u ≢ root.header
-    → length state ≡ 48 → ((r : ℕ) → r < 48 → IsMet inner instrs points xs u r (forms_in state r)) → xs ≡ ys → u ≡ v → IsState B levels inner root c instrs points ys v state
+    → length state ≡ 48 → ((r : ℕ) → r < 48 → IsMet inner instrs points xs u r (forms_in state r)) → xs ≡ ys → u ≡ v → AreFormsAt B levels inner root c instrs points ys v state
 met_state B levels inner root c instrs points xs ys u v state none ne n all e at =
-    subst (λ zs. IsState B levels inner root c instrs points zs v state) e (subst (λ w. IsState B levels inner root c instrs points xs w state) at (record {
+    subst (λ zs. AreFormsAt B levels inner root c instrs points zs v state) e (subst (λ w. AreFormsAt B levels inner root c instrs points xs w state) at (record {
       count = n;
       first = λ q. absurd (ne q);
       other = λ q. inr (none, all);
@@ -57,7 +57,7 @@ met_moved inner instrs old new ks v r o same m f =
     (λ e. all_moved inner instrs old new ks v r f same ((m f).0 e), λ a. (m f).1 (all_moved inner instrs new old ks v r f (λ k c. sym (same k c)) a))
 
 pub state_moved : (B : LoopCode) (levels inner : List Level) (root : Level) (c : Classes) (instrs : List (Option Instr)) (old new : List Point) (ks : List ℕ) (v : ℕ) (state : List (Option LinearForm)) → AreSame old new ks
-    → IsState B levels inner root c instrs old ks v state → IsState B levels inner root c instrs new ks v state
+    → AreFormsAt B levels inner root c instrs old ks v state → AreFormsAt B levels inner root c instrs new ks v state
 state_moved B levels inner root c instrs old new ks v state same s = record { count = s.count; first = s.first; other = λ ne. by (s.other ne) }
   where
     header : (l : Level) (r : ℕ) (o : Option LinearForm) → IsHeaderForm B levels c l (IsMet inner instrs old ks v r) r o → IsHeaderForm B levels c l (IsMet inner instrs new ks v r) r o
@@ -75,9 +75,9 @@ pub more_places : (B : LoopCode) (levels inner : List Level) (root : Level) (c :
     → i < length order → get_or order i 0 < length old
     → ((j k : ℕ) → j < i + 1 → Contains (row_at rows (get_or order j 0)) k → k ≢ get_or order i 0)
     → ((j : ℕ) → j < i → get_or order j 0 ≢ get_or order i 0)
-    → IsSetAt B levels inner root c rows instrs (get_or order i 0) old new
-    → ((j : ℕ) → j < i → IsPlace B levels inner root c rows instrs old (get_or order j 0))
-    → (j : ℕ) → j < i + 1 → IsPlace B levels inner root c rows instrs new (get_or order j 0)
+    → AreFormsSet B levels inner root c rows instrs (get_or order i 0) old new
+    → ((j : ℕ) → j < i → IsFormPlace B levels inner root c rows instrs old (get_or order j 0))
+    → (j : ℕ) → j < i + 1 → IsFormPlace B levels inner root c rows instrs new (get_or order j 0)
 more_places B levels inner root c rows instrs order i old new l within sources once s before j m = by (cases_eq j i)
   where
     p : ℕ
@@ -92,12 +92,12 @@ more_places B levels inner root c rows instrs order i old new l within sources o
     here : point_at new p ≡ pt
     here = ap (λ (ps : List Point). point_at ps p) s.is ∙ get_or-set_same old p pt no_forms within
 
-    by : (j ≡ i) ⊎ (j ≢ i) → IsPlace B levels inner root c rows instrs new (get_or order j 0)
-    by (inl e) = subst (λ q. IsPlace B levels inner root c rows instrs new (get_or order q 0)) (sym e)
-        (subst (λ (x : Point). IsState B levels inner root c instrs new (row_at rows p) x.at x.forms) (sym here)
+    by : (j ≡ i) ⊎ (j ≢ i) → IsFormPlace B levels inner root c rows instrs new (get_or order j 0)
+    by (inl e) = subst (λ q. IsFormPlace B levels inner root c rows instrs new (get_or order q 0)) (sym e)
+        (subst (λ (x : Point). AreFormsAt B levels inner root c instrs new (row_at rows p) x.at x.forms) (sym here)
         (state_moved B levels inner root c instrs old new (row_at rows p) (point_at old p).at s.state (λ k k_in. apart k (sources i k (omega arith) k_in)) s.right))
     by (inr ne) =
         let q = get_or order j 0 in
         let lt : j < i = omega arith in
-        subst (λ (x : Point). IsState B levels inner root c instrs new (row_at rows q) x.at x.forms) (apart q (once j lt))
+        subst (λ (x : Point). AreFormsAt B levels inner root c instrs new (row_at rows q) x.at x.forms) (apart q (once j lt))
         (state_moved B levels inner root c instrs old new (row_at rows q) (point_at old q).at (point_at old q).forms (λ k k_in. apart k (sources j k m k_in)) (before j lt))

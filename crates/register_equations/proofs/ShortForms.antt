@@ -10,7 +10,7 @@ use Rattle.linear_forms.proofs.Limits.{all_limited}
 use Rattle.loop_data.specs.Facts.{short_of}
 use Rattle.loop_data.specs.FormRows.{is_pure, is_empty, form_sum, form_difference}
 use Rattle.register_equations.specs.declared.rows.Short.{Short}
-use Rattle.register_equations.specs.Rows.{floating, at_constant, IsShort}
+use Rattle.register_equations.specs.Rows.{floating, at_constant, IsShortResult}
 
 bits_below : (z : ℤ) → FitsSigned w64 z → of_z w64 z < 2 ^ 64
 bits_below (pos n) f = omega (arith, ints)
@@ -49,13 +49,13 @@ limited_back f g z o e q h =
     h ∙ ap (λ i. limited (at_constant i z)) (sym k) ∙ ap (λ y. limited (at_constant f y)) q
 
 pub short_sum_is : (s : Short) (F G f g : LinearForm) (o : Option LinearForm) (z : ℤ) (p q : Option LinearForm) → f ≡ floating F → g ≡ floating G → o ≡ limited (sum_of f g) → z ≡ F.constant +ℤ G.constant
-    → ((h : LinearForm) → o ≡ limited (floating h) → z ≡ h.constant → IsShort s (Some h)) → p ≡ Some F → q ≡ Some G → IsShort s (form_sum p q)
+    → ((h : LinearForm) → o ≡ limited (floating h) → z ≡ h.constant → IsShortResult s (Some h)) → p ≡ Some F → q ≡ Some G → IsShortResult s (form_sum p q)
 short_sum_is s F G f g o z p q e d h k all a b =
     let w : o ≡ limited (floating (sum_of F G)) = h ∙ ap (λ x. limited (sum_of x g)) e ∙ ap (λ x. limited (sum_of (floating F) x)) d in
     rw (a, b) (all (sum_of F G) w k)
 
 pub short_difference_is : (s : Short) (F G f g : LinearForm) (o : Option LinearForm) (z : ℤ) (p q : Option LinearForm) → f ≡ floating F → g ≡ floating G → o ≡ limited (difference f g) → z ≡ F.constant +ℤ negsuc 0 *ℤ G.constant
-    → ((h : LinearForm) → o ≡ limited (floating h) → z ≡ h.constant → IsShort s (Some h)) → p ≡ Some F → q ≡ Some G → IsShort s (form_difference p q)
+    → ((h : LinearForm) → o ≡ limited (floating h) → z ≡ h.constant → IsShortResult s (Some h)) → p ≡ Some F → q ≡ Some G → IsShortResult s (form_difference p q)
 short_difference_is s F G f g o z p q e d h k all a b =
     let w : o ≡ limited (floating (difference F G)) = h ∙ ap (λ x. limited (difference x g)) e ∙ ap (λ x. limited (difference (floating F) x)) d in
     rw (a, b) (all (difference F G) w k)

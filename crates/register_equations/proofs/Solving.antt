@@ -29,7 +29,7 @@ use Rattle.loop_data.proofs.FormWords.{no_cell}
 use Rattle.loop_data.proofs.FlowEdges.{sources_forward, forward_sources, place_of_word, listed_in}
 use Rattle.loop_data.proofs.ValuePlaces.{some_source}
 use Rattle.register_equations.specs.Rows.{forms_in}
-use Rattle.register_equations.specs.States.{code_with, no_forms, point_at, past, IsKept, Comes, IsMet, IsHeaderForm, IsState, IsPlace}
+use Rattle.register_equations.specs.States.{code_with, no_forms, point_at, past, IsKept, Comes, IsMet, IsHeaderForm, AreFormsAt, IsFormPlace}
 
 low_of : (r n : ℕ) → nat_lt r n ≡ true → r < n
 low_of r n e = grind (arith, nat_tests)
@@ -144,7 +144,7 @@ no_write u r None l = refl
 no_write u r (Some i) l = ap (λ c. if c then writes_register i r else writes_cell i None r) (not_low r first_cell (omega arith)) ∙ no_cell i r
 
 module _ (G : Graph) (ls : List Level) (nest : AreNest G ls) (c : Classes) (flow : Flow) (ps : List Point) (f : IsFlow G ls nest.root.body flow) (words : map (λ (p : Point). p.at) ps ≡ nest.root.body)
-    (right : (j : ℕ) → j < length flow.order.items → IsPlace (code_of G no_cells) ls nest.inner nest.root c (rows flow.sources.items) flow.instrs.items ps (get_or flow.order.items j 0)) where
+    (right : (j : ℕ) → j < length flow.order.items → IsFormPlace (code_of G no_cells) ls nest.inner nest.root c (rows flow.sources.items) flow.instrs.items ps (get_or flow.order.items j 0)) where
   abbrev pub N : Nest
   N = nest_of G nest.root nest.inner
 
@@ -226,11 +226,11 @@ module _ (G : Graph) (ls : List Level) (nest : AreNest G ls) (c : Classes) (flow
   ordered : (p : ℕ) → p < length body → (j : ℕ) × (j < length flow.order.items) × (get_or flow.order.items j 0 ≡ p)
   ordered p l = let e = src.count in let q = f.order.every p (omega arith) in (q.0, q.1, get_or_default flow.order.items q.0 0 p q.1 ∙ q.2)
 
-  state : (p : ℕ) → p < length body → IsState B ls nest.inner nest.root c flow.instrs.items ps (row_at R p) (at body p) (point_at ps p).forms
+  state : (p : ℕ) → p < length body → AreFormsAt B ls nest.inner nest.root c flow.instrs.items ps (row_at R p) (at body p) (point_at ps p).forms
   state p l =
       let j = ordered p l in
-      let s = subst (λ q. IsPlace B ls nest.inner nest.root c R flow.instrs.items ps q) j.2 (right j.0 j.1) in
-      subst (λ v. IsState B ls nest.inner nest.root c flow.instrs.items ps (row_at R p) v (point_at ps p).forms) (at_place p l) s
+      let s = subst (λ q. IsFormPlace B ls nest.inner nest.root c R flow.instrs.items ps q) j.2 (right j.0 j.1) in
+      subst (λ v. AreFormsAt B ls nest.inner nest.root c flow.instrs.items ps (row_at R p) v (point_at ps p).forms) (at_place p l) s
 
   beyond : (p r : ℕ) → p < length body → 48 ≤ r → F (at body p) r ≡ None
   beyond p r l m = ap (λ (H : ℕ → Option LinearForm). H r) (form_place p l) ∙ past_end (point_at ps p).forms r (let n = (state p l).count in omega arith)

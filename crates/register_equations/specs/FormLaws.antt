@@ -17,7 +17,8 @@ use Rattle.loop_data.specs.Holds.{entry_of, times, HoldsAt, FormsHold}
 use Rattle.loop_data.specs.Executing.{AreProgramWords, Executes, IsOf32Bits}
 
 -- the forms are a solution of the equations of a nest, by roles that its loops give the locations
-pub record AreSolved (N : Nest) (B : LoopCode) (roles : Level → ℕ → Role) (at : ℕ → ℕ → Option LinearForm) : Type 0 where
+pub record AreSolved (N : Nest) (B : LoopCode) (roles : Level → ℕ → Role) (at : ℕ → ℕ
+    → Option LinearForm) : Type 0 where
   -- what a loop keeps it does not write
   pub keeps : (l : Level) → Among N l → (r : ℕ) → roles l r ≡ Keeps → IsUnwritten B l r
   -- what it moves on it writes on every pass

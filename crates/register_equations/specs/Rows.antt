@@ -20,10 +20,10 @@ floating f = at_constant f (pos 0)
 
 -- what an instruction on words of 32 bits makes of a form, whatever the form's size: a constant, or the form
 -- where it keeps to the limits
-abbrev pub IsShort : Short → Option LinearForm → Type 0
-IsShort s None = s ≡ Other None
-IsShort (Constant z) (Some f) = (is_pure f ≡ true) × (z ≡ short_of f.constant)
-IsShort (Other o) (Some f) = (is_pure f ≡ false) × (o ≡ limited f)
+abbrev pub IsShortResult : Short → Option LinearForm → Type 0
+IsShortResult s None = s ≡ Other None
+IsShortResult (Constant z) (Some f) = (is_pure f ≡ true) × (z ≡ short_of f.constant)
+IsShortResult (Other o) (Some f) = (is_pure f ≡ false) × (o ≡ limited f)
 
 -- the constant by which a form may be multiplied
 abbrev pub IsFactor : Option ℤ → LinearForm → Type 0

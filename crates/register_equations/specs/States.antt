@@ -3,9 +3,8 @@ use Rattle.std.specs.Prelude.{ℕ, ◌≡◌, ◌≢◌, ◌<◌, ◌⊎◌, ◌
 use Rattle.std.specs.List.{All, Contains}
 use Rattle.std.specs.List.Sorted.{IsStrictlyIncreasing}
 use Rattle.rv64_decode.specs.declared.instr.Instr.{Instr}
-use Rattle.linear_forms.specs.Forms.{LinearForm, stride, is_small}
+use Rattle.linear_forms.specs.Forms.{LinearForm, stride}
 use Rattle.loop_data.specs.declared.classes.Class.{Class}
-use Rattle.loop_data.specs.declared.classes.Class.TheVariants.{Induction}
 use Rattle.loop_data.specs.declared.classes.Classes.{Classes}
 use Rattle.loop_data.specs.declared.equations.Duty.{Duty}
 use Rattle.loop_data.specs.declared.equations.Point.{Point}
@@ -42,7 +41,8 @@ abbrev pub IsKept : ℕ → ℕ → LinearForm → Level → Type 0
 IsKept u v f l = Holds l u → has l.body v ≡ false → stride f l.depth ≡ pos 0
 
 -- the form stands at v after the word at a place
-pub record Comes (inner : List Level) (instrs : List (Option Instr)) (points : List Point) (k v r : ℕ) (f : LinearForm) : Type 0 where
+pub record Comes (inner : List Level) (instrs : List (Option Instr)) (points : List Point) (k v r : ℕ)
+    (f : LinearForm) : Type 0 where
   pub after : past instrs points k r ≡ Some f
   pub kept : All (IsKept (point_at points k).at v f) inner
 
@@ -56,7 +56,8 @@ abbrev pub IsFree : ℕ → Option LinearForm → Type 0
 IsFree depth o = (f : LinearForm) → o ≡ Some f → stride f depth ≡ pos 0
 
 -- the form at the header of this loop, out of one that comes along all edges, if that has no stride of the loop
-pub record IsHeaderForm (B : LoopCode) (levels : List Level) (classes : Classes) (l : Level) (P : Option LinearForm → Type 0) (r : ℕ) (o : Option LinearForm) : Type 0 where
+pub record IsHeaderForm (B : LoopCode) (levels : List Level) (classes : Classes) (l : Level)
+    (P : Option LinearForm → Type 0) (r : ℕ) (o : Option LinearForm) : Type 0 where
   pub outside : Option LinearForm
   pub met : P outside
   pub is : IsFree l.depth outside → o ≡ header_form l.depth (roles_by B levels classes l r) outside
@@ -66,34 +67,32 @@ abbrev pub IsClass : List Level → Classes → ℕ → ℕ → Option Class →
 IsClass levels c header r class =
     (l : Level) → l.header ≡ header → class ≡ slice_index_or (classes_of levels (c.root ∷ c.inner) l) r None
 
--- the steps of the classes are those of forms
-abbrev pub AreSmall : List (Option Class) → Type 0
-AreSmall row = (r : ℕ) (step : ℤ) → slice_index_or row r None ≡ Some (Induction step) → is_small step ≡ true
-
-pub record AreSmallSteps (c : Classes) : Type 0 where
-  pub root : AreSmall c.root
-  pub inner : (i : ℕ) → AreSmall (slice_index_or c.inner i [])
-
 -- the forms are those of the word v at a place, which has these sources
-pub record IsState (B : LoopCode) (levels inner : List Level) (root : Level) (classes : Classes) (instrs : List (Option Instr)) (points : List Point) (sources : List ℕ) (v : ℕ) (state : List (Option LinearForm)) : Type 0 where
+pub record AreFormsAt (B : LoopCode) (levels inner : List Level) (root : Level) (classes : Classes)
+    (instrs : List (Option Instr)) (points : List Point) (sources : List ℕ) (v : ℕ) (state : List
+    (Option LinearForm)) : Type 0 where
   pub count : length state ≡ 48
   pub first : v ≡ root.header → (r : ℕ) → r < 48
       → IsHeaderForm B levels classes root (λ o. o ≡ entry_form B r) r (forms_in state r)
   pub other : v ≢ root.header
       → ((l : Level) × Contains inner l × (v ≡ l.header)
-      × ((r : ℕ) → r < 48 → IsHeaderForm B levels classes l (IsMet inner instrs points sources v r) r (forms_in state r)))
+      × ((r : ℕ) → r < 48 → IsHeaderForm B levels classes l (IsMet inner instrs points sources v r) r
+          (forms_in state r)))
       ⊎ (((l : Level) → Contains inner l → v ≢ l.header)
       × ((r : ℕ) → r < 48 → IsMet inner instrs points sources v r (forms_in state r)))
 
 -- the forms of a place are right
-abbrev pub IsPlace : LoopCode → List Level → List Level → Level → Classes → List (List ℕ) → List (Option Instr) → List Point → ℕ → Type 0
-IsPlace B levels inner root classes rows instrs points p =
-    IsState B levels inner root classes instrs points (row_at rows p) (point_at points p).at (point_at points p).forms
+abbrev pub IsFormPlace : LoopCode → List Level → List Level → Level → Classes → List (List ℕ)
+    → List (Option Instr) → List Point → ℕ → Type 0
+IsFormPlace B levels inner root classes rows instrs points p =
+    AreFormsAt B levels inner root classes instrs points (row_at rows p) (point_at points p).at
+        (point_at points p).forms
 
 -- the new points are the old ones with other forms at place p, which are right
-pub record IsSetAt (B : LoopCode) (levels inner : List Level) (root : Level) (classes : Classes) (rows : List (List ℕ)) (instrs : List (Option Instr)) (p : ℕ) (old new : List Point) : Type 0 where
+pub record AreFormsSet (B : LoopCode) (levels inner : List Level) (root : Level) (classes : Classes)
+    (rows : List (List ℕ)) (instrs : List (Option Instr)) (p : ℕ) (old new : List Point) : Type 0 where
   pub state : List (Option LinearForm)
-  pub right : IsState B levels inner root classes instrs old (row_at rows p) (point_at old p).at state
+  pub right : AreFormsAt B levels inner root classes instrs old (row_at rows p) (point_at old p).at state
   pub is : new ≡ slice_set old p (record { at = (point_at old p).at; forms = state })
 
 -- the points of the words of a nest, whose forms solve its equations
@@ -124,8 +123,10 @@ IsDutyAdded B levels p None old new = new ≡ old
 IsDutyAdded B levels p (Some f) old new = (d : Duty) × IsDutyOf B levels p d × (new ≡ old ++ d ∷ [])
 
 -- the duties of the first points, in order
-pub record AreDutiesTo (B : LoopCode) (levels : List Level) (points : List Point) (i : ℕ) (duties : List Duty) : Type 0 where
+pub record AreDutiesTo (B : LoopCode) (levels : List Level) (points : List Point) (i : ℕ)
+    (duties : List Duty) : Type 0 where
   pub ordered : IsStrictlyIncreasing (duty_ats duties)
   pub each : (d : Duty) → Contains duties d → (k : ℕ) × (k < i) × IsDutyOf B levels (point_at points k) d
-  pub every : (k : ℕ) (f : LinearForm) → k < i → duty B (point_at points k).at (forms_in (point_at points k).forms) ≡ Some f
+  pub every : (k : ℕ) (f : LinearForm) → k < i
+      → duty B (point_at points k).at (forms_in (point_at points k).forms) ≡ Some f
       → Contains (duty_ats duties) (point_at points k).at

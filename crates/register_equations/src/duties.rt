@@ -117,7 +117,8 @@ fn add_duty(
     requires few { length levels.now ≤ 4 }
     requires depths { (l : Level) → Contains levels.now l → l.depth < 3 }
     requires held { (l : Level) × Contains levels.now l × Holds l point.now.at }
-    ensures { OnOk result (IsDutyAdded (code_of graph.now no_cells) levels.now point.now (duty (code_of graph.now no_cells) point.now.at (forms_in point.now.forms)) duties.old.items duties.new.items) }
+    ensures { OnOk result (IsDutyAdded (code_of graph.now no_cells) levels.now point.now (duty
+        (code_of graph.now no_cells) point.now.at (forms_in point.now.forms)) duties.old.items duties.new.items) }
 {
     match duty_at(graph, point) {
         Some(form) => {
@@ -139,9 +140,11 @@ pub fn duties_of(
     requires bodies { All (λ l. IsStrictlyIncreasing l.body) levels.now }
     requires few { length levels.now ≤ 4 }
     requires depths { (l : Level) → Contains levels.now l → l.depth < 3 }
-    requires held { (k : ℕ) → k < length points.now → (l : Level) × Contains levels.now l × Holds l (point_at points.now k).at }
+    requires held { (k : ℕ) → k < length points.now
+        → (l : Level) × Contains levels.now l × Holds l (point_at points.now k).at }
     requires ordered { IsStrictlyIncreasing (map (λ (p : Point). p.at) points.now) }
-    ensures { IfOk result (λ v. AreDutiesTo (code_of graph.now no_cells) levels.now points.now (length points.now) v.items) }
+    ensures { IfOk result (λ v. AreDutiesTo (code_of graph.now no_cells) levels.now points.now
+        (length points.now) v.items) }
 {
     let mut duties = Vec::new(alloc);
     for i in 0..points.len() {

@@ -6,7 +6,8 @@ ghost use Rattle.loop_data.specs.LoopCode.{code_of, any_writes};
 ghost use Rattle.loop_data.specs.Equations.{entry_form, with_step, header_form};
 ghost use Rattle.loop_data.specs.Lookups.{role_by};
 ghost use Rattle.loop_data.specs.Paths.{IsInOrder};
-ghost use Rattle.register_equations.specs.States.{code_with, IsFree, IsClass, AreSmallSteps};
+ghost use Rattle.register_equations.specs.States.{code_with, IsFree, IsClass};
+ghost use Rattle.loop_data.specs.Results.{AreSmallSteps};
 
 use crate::meets::target;
 use linear_forms::{Form, Loc};
@@ -33,7 +34,8 @@ fn turned(form: Form, turns: [i64; 3]) -> Form
     requires first { is_small (slice_index_or turns 0 (pos 0)) ≡ true }
     requires second { is_small (slice_index_or turns 1 (pos 0)) ≡ true }
     requires third { is_small (slice_index_or turns 2 (pos 0)) ≡ true }
-    ensures { result ≡ record form { first = slice_index_or turns 0 (pos 0); second = slice_index_or turns 1 (pos 0); third = slice_index_or turns 2 (pos 0) } }
+    ensures { result ≡ record form { first = slice_index_or turns 0 (pos 0); second = slice_index_or turns 1
+        (pos 0); third = slice_index_or turns 2 (pos 0) } }
 {
     Form {
         constant: form.constant,

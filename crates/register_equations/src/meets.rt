@@ -86,7 +86,8 @@ fn are_same_terms(ts: &[(Loc, i64)], us: &[(Loc, i64)]) -> bool
 
 /// Whether two forms have the same strides.
 fn has_same_strides(f: &Form, g: &Form) -> bool
-    ensures { IsTrue result ↔ ((f.now.first ≡ g.now.first) × (f.now.second ≡ g.now.second) × (f.now.third ≡ g.now.third)) }
+    ensures { IsTrue result ↔ ((f.now.first ≡ g.now.first) × (f.now.second ≡ g.now.second)
+        × (f.now.third ≡ g.now.third)) }
 {
     f.turns[0] == g.turns[0] && f.turns[1] == g.turns[1] && f.turns[2] == g.turns[2]
 }

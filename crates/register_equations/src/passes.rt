@@ -13,7 +13,8 @@ ghost use Rattle.loop_data.specs.Flows.{rows, row_at, IsFlow};
 ghost use Rattle.loop_data.specs.Lookups.{roles_by, role_by, classes_of};
 ghost use Rattle.loop_data.specs.Paths.{IsInOrder};
 ghost use Rattle.register_equations.specs.Rows.{forms_in};
-ghost use Rattle.register_equations.specs.States.{code_with, IsFree, IsMet, IsHeaderForm, AreSmallSteps, IsState, IsSetAt, AreSolvedPoints, point_at};
+ghost use Rattle.register_equations.specs.States.{code_with, IsFree, IsMet, IsHeaderForm, AreFormsAt, AreFormsSet, AreSolvedPoints, point_at};
+ghost use Rattle.loop_data.specs.Results.{AreSmallSteps};
 
 use crate::headers::{class_at, entry, header_form};
 use crate::meets::{met_form, target};
@@ -42,7 +43,8 @@ fn no_points(alloc: Global, body: &[u64]) -> Result<Vec<Point>, AllocError>
 
 /// Sets the flag of the location that a word writes.
 fn mark_word(flags: &mut [bool; 48], at: u64, instr: &Option<Instr>)
-    ensures { (r : ℕ) → r < 48 → slice_index_or flags.new r false ≡ (slice_index_or flags.old r false || word_writes no_cells at instr.now r) }
+    ensures { (r : ℕ) → r < 48 → slice_index_or flags.new r false
+        ≡ (slice_index_or flags.old r false || word_writes no_cells at instr.now r) }
 {
     if let Some(instr) = instr {
         let r = target(instr);
@@ -75,7 +77,9 @@ fn headed(
 ) -> Option<Form>
     requires location { r < 48 }
     requires steps { AreSmallSteps classes.now }
-    ensures { IsFree level.now.depth outside → result ≡ header_form level.now.depth (role_by written (slice_index_or (classes_of levels.now (classes.now.root ∷ classes.now.inner) level.now) r None)) outside }
+    ensures { IsFree level.now.depth outside
+        → result ≡ header_form level.now.depth (role_by written (slice_index_or (classes_of levels.now
+        (classes.now.root ∷ classes.now.inner) level.now) r None)) outside }
 {
     header_form(
         level.depth,
@@ -95,7 +99,9 @@ fn root_forms(
     requires graph { IsInOrder graph.now }
     requires steps { AreSmallSteps classes.now }
     ensures count { length result ≡ 48 }
-    ensures forms { (r : ℕ) → r < 48 → IsHeaderForm (code_of graph.now no_cells) levels.now classes.now root.now (λ o. o ≡ entry_form (code_of graph.now no_cells) r) r (forms_in result r) }
+    ensures forms { (r : ℕ) → r < 48
+        → IsHeaderForm (code_of graph.now no_cells) levels.now classes.now root.now
+        (λ o. o ≡ entry_form (code_of graph.now no_cells) r) r (forms_in result r) }
 {
     let written = written_flags(graph, root.body.as_slice());
     let mut forms = no_forms();
@@ -124,7 +130,9 @@ fn inner_forms(
     requires within { All (λ k. k < length points.now) sources.now }
     requires count { length flow.now.instrs.items ≡ length points.now }
     ensures count { length result ≡ 48 }
-    ensures forms { (r : ℕ) → r < 48 → IsHeaderForm (code_of graph.now no_cells) levels.now classes.now level.now (IsMet inner.now flow.now.instrs.items points.now sources.now v r) r (forms_in result r) }
+    ensures forms { (r : ℕ) → r < 48
+        → IsHeaderForm (code_of graph.now no_cells) levels.now classes.now level.now
+        (IsMet inner.now flow.now.instrs.items points.now sources.now v r) r (forms_in result r) }
 {
     let written = written_flags(graph, level.body.as_slice());
     let mut forms = no_forms();
@@ -148,7 +156,8 @@ fn met_forms(
     requires within { All (λ k. k < length points.now) sources.now }
     requires count { length flow.now.instrs.items ≡ length points.now }
     ensures count { length result ≡ 48 }
-    ensures forms { (r : ℕ) → r < 48 → IsMet inner.now flow.now.instrs.items points.now sources.now v r (forms_in result r) }
+    ensures forms { (r : ℕ) → r < 48
+        → IsMet inner.now flow.now.instrs.items points.now sources.now v r (forms_in result r) }
 {
     let mut forms = no_forms();
     for r in 0..48usize {
@@ -189,7 +198,8 @@ fn place_forms(
     requires rows { length (rows flow.now.sources.items) ≡ length points.now }
     requires sources { All (λ k. k < length points.now) (row_at (rows flow.now.sources.items) p) }
     requires some { (point_at points.now p).at ≢ root.now.header → 1 ≤ length (row_at (rows flow.now.sources.items) p) }
-    ensures { IsState (code_of graph.now no_cells) levels.now inner.now root.now classes.now flow.now.instrs.items points.now (row_at (rows flow.now.sources.items) p) (point_at points.now p).at result }
+    ensures { AreFormsAt (code_of graph.now no_cells) levels.now inner.now root.now classes.now
+        flow.now.instrs.items points.now (row_at (rows flow.now.sources.items) p) (point_at points.now p).at result }
 {
     let v = points[p].at;
     if v == root.header {
@@ -222,8 +232,10 @@ fn set_place(
     requires count { length flow.now.instrs.items ≡ length points.old.items }
     requires rows { length (rows flow.now.sources.items) ≡ length points.old.items }
     requires sources { All (λ k. k < length points.old.items) (row_at (rows flow.now.sources.items) p) }
-    requires some { (point_at points.old.items p).at ≢ root.now.header → 1 ≤ length (row_at (rows flow.now.sources.items) p) }
-    ensures { IsSetAt (code_of graph.now no_cells) levels.now inner.now root.now classes.now (rows flow.now.sources.items) flow.now.instrs.items p points.old.items points.new.items }
+    requires some { (point_at points.old.items p).at ≢ root.now.header
+        → 1 ≤ length (row_at (rows flow.now.sources.items) p) }
+    ensures { AreFormsSet (code_of graph.now no_cells) levels.now inner.now root.now classes.now
+        (rows flow.now.sources.items) flow.now.instrs.items p points.old.items points.new.items }
 {
     let forms = place_forms(
         graph,

@@ -3,7 +3,7 @@ ghost use Rattle.rv64_decode.specs.Row.{signed32};
 ghost use Rattle.linear_forms.specs.Forms.{LinearForm, limited, sum_of, difference, multiple, pure, word_of};
 ghost use Rattle.loop_data.specs.Facts.{short_of, signed_of};
 ghost use Rattle.loop_data.specs.FormRows.{form_read, form_sum, form_difference, form_multiple, form_shifted, form_product, is_pure, is_empty, is_factor, form_limited, form_short, form_owed, alu_form, imm_form, upper_form, alu_duty, imm_duty, register_form, duty_by};
-ghost use Rattle.register_equations.specs.Rows.{forms_in, floating, at_constant, multiple_by, IsShort, IsFactor};
+ghost use Rattle.register_equations.specs.Rows.{forms_in, floating, at_constant, multiple_by, IsShortResult, IsFactor};
 
 use linear_forms::{Form, Terms};
 use rv64_decode::{AluOp, ImmOp, Instr, Reg, UpperOp};
@@ -90,7 +90,7 @@ fn low_half(word: u64) -> i64
 /// What becomes of a form on words of 32 bits, by the form but for its constant, if that keeps to the
 /// limits, and its constant.
 fn shortened(rest: Option<Form>, constant: i64) -> Short
-    ensures { (f : LinearForm) → rest ≡ limited (floating f) → constant ≡ f.constant → IsShort result (Some f) }
+    ensures { (f : LinearForm) → rest ≡ limited (floating f) → constant ≡ f.constant → IsShortResult result (Some f) }
 {
     match rest {
         Some(form) => {
@@ -106,7 +106,7 @@ fn shortened(rest: Option<Form>, constant: i64) -> Short
 
 /// The form that an instruction on words of 32 bits writes.
 fn written(short: Short) -> Option<Form>
-    ensures { (o : Option LinearForm) → IsShort short o → result ≡ form_short o }
+    ensures { (o : Option LinearForm) → IsShortResult short o → result ≡ form_short o }
 {
     match short {
         Short::Constant(constant) => Form::pure(constant),
@@ -116,7 +116,7 @@ fn written(short: Short) -> Option<Form>
 
 /// The form whose values have to be numbers of 32 bits.
 fn owed(short: Short) -> Option<Form>
-    ensures { (o : Option LinearForm) → IsShort short o → result ≡ form_owed o }
+    ensures { (o : Option LinearForm) → IsShortResult short o → result ≡ form_owed o }
 {
     match short {
         Short::Constant(_) => None,
@@ -126,7 +126,7 @@ fn owed(short: Short) -> Option<Form>
 
 /// The sum of two forms on words of 32 bits.
 fn short_sum(f: &Option<Form>, g: &Option<Form>) -> Short
-    ensures { IsShort result (form_sum f.now g.now) }
+    ensures { IsShortResult result (form_sum f.now g.now) }
 {
     match (f, g) {
         (Some(f), Some(g)) => shortened(floated(f).add(&floated(g)), f.constant + g.constant),
@@ -136,7 +136,7 @@ fn short_sum(f: &Option<Form>, g: &Option<Form>) -> Short
 
 /// The difference of two forms on words of 32 bits.
 fn short_difference(f: &Option<Form>, g: &Option<Form>) -> Short
-    ensures { IsShort result (form_difference f.now g.now) }
+    ensures { IsShortResult result (form_difference f.now g.now) }
 {
     match (f, g) {
         (Some(f), Some(g)) => shortened(floated(f).sub(&floated(g)), f.constant - g.constant),
@@ -242,7 +242,7 @@ fn multiple_word(f: &Form, by: i64) -> u64
 
 /// The multiple of a form on words of 32 bits.
 fn short_multiple(f: &Option<Form>, by: i64) -> Short
-    ensures { IsShort result (form_multiple by f.now) }
+    ensures { IsShortResult result (form_multiple by f.now) }
 {
     match f {
         Some(f) => {
@@ -258,7 +258,7 @@ fn short_multiple(f: &Option<Form>, by: i64) -> Short
 
 /// The product of two forms on words of 32 bits, of which one is a factor.
 fn short_product(f: &Option<Form>, g: &Option<Form>) -> Short
-    ensures { IsShort result (form_product f.now g.now) }
+    ensures { IsShortResult result (form_product f.now g.now) }
 {
     match (f, g) {
         (Some(x), Some(y)) => match factor(y) {
@@ -274,7 +274,7 @@ fn short_product(f: &Option<Form>, g: &Option<Form>) -> Short
 
 /// A form shifted left by up to 30, on words of 32 bits.
 fn short_shifted(f: &Option<Form>, amount: i32) -> Short
-    ensures { IsShort result (form_shifted f.now amount) }
+    ensures { IsShortResult result (form_shifted f.now amount) }
 {
     match power(amount) {
         Some(by) => short_multiple(f, by),

@@ -2,8 +2,7 @@ ghost use Rattle.std.specs.Prelude.{◌≡◌, [], IfOk};
 ghost use Rattle.loop_data.specs.LoopWords.{AreNest};
 ghost use Rattle.loop_data.specs.Lookups.{cell_map};
 ghost use Rattle.loop_data.specs.Paths.{IsInOrder};
-ghost use Rattle.loop_data.specs.Results.{AreEquations};
-ghost use Rattle.register_equations.specs.States.{AreSmallSteps};
+ghost use Rattle.loop_data.specs.Results.{AreEquations, AreSmallSteps};
 
 use crate::duties::duties_of;
 use crate::passes::solved_points;

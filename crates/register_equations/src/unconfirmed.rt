@@ -8,7 +8,7 @@ ghost use Rattle.loop_data.specs.LoopCode.{code_of};
 ghost use Rattle.loop_data.specs.Equations.{plus_constant};
 ghost use Rattle.loop_data.specs.Lookups.{form_at};
 ghost use Rattle.loop_data.specs.Paths.{IsInOrder};
-ghost use Rattle.register_equations.specs.States.{AreSmallSteps};
+ghost use Rattle.loop_data.specs.Results.{AreSmallSteps};
 ghost use Rattle.register_equations.specs.Astray.{IsOther, IsAstray, IsLeastAstray};
 
 use crate::headers::class_at;
@@ -54,7 +54,8 @@ fn is_other_in(
     requires body { IsStrictlyIncreasing level.now.body }
     requires location { r < 48 }
     requires step { is_small step ≡ true }
-    ensures { IsTrue result ↔ ((has level.now.body point.now.at ≡ true) × IsOther (code_of graph.now no_cells) r form.now step point.now) }
+    ensures { IsTrue result ↔ ((has level.now.body point.now.at ≡ true)
+        × IsOther (code_of graph.now no_cells) r form.now step point.now) }
 {
     is_in(level.body.as_slice(), point.at) && is_other(graph, point, r, form, step)
 }
@@ -72,7 +73,8 @@ fn has_other(
     requires body { IsStrictlyIncreasing level.now.body }
     requires location { r < 48 }
     requires step { is_small step ≡ true }
-    ensures { IsTrue result ↔ Any (λ p. (has level.now.body p.at ≡ true) × IsOther (code_of graph.now no_cells) r form.now step p) points.now }
+    ensures { IsTrue result ↔ Any (λ p. (has level.now.body p.at ≡ true)
+        × IsOther (code_of graph.now no_cells) r form.now step p) points.now }
 {
     points
         .iter()
@@ -106,7 +108,8 @@ fn is_astray(
     requires body { IsStrictlyIncreasing level.now.body }
     requires location { r < 48 }
     ensures yes { result ≡ true → IsAstray (code_of graph.now no_cells) levels.now classes.now points.now r level.now }
-    ensures no { result ≡ false → ¬ IsAstray (code_of graph.now no_cells) levels.now classes.now points.now r level.now }
+    ensures no { result ≡ false → ¬ IsAstray
+        (code_of graph.now no_cells) levels.now classes.now points.now r level.now }
 {
     match class_at(levels, classes, level.header, r) {
         Some(Class::Induction(step)) => match form_of(points, level.header, r) {
@@ -129,7 +132,8 @@ fn some_astray(
     requires steps { AreSmallSteps classes.now }
     requires bodies { All (λ l. IsStrictlyIncreasing l.body) levels.now }
     requires location { r < 48 }
-    ensures { IsTrue result ↔ Any (IsAstray (code_of graph.now no_cells) levels.now classes.now points.now r) levels.now }
+    ensures { IsTrue result ↔ Any (IsAstray
+        (code_of graph.now no_cells) levels.now classes.now points.now r) levels.now }
 {
     levels
         .iter()

@@ -6,7 +6,7 @@ use Rattle.outside_ports.specs.Ports.{Files, Rose, SameButIn}
 use Rattle.rewrite_cli.specs.Words.{Command}
 use Rattle.rewrite_cli.specs.Needs.{needs_of, LacksOne, SameBut}
 use Rattle.rewrite_cli.specs.Effect.{Effect, Does, StartsRun, only}
-use Rattle.rewrite_cli.specs.Answer.{Stored, Stream, Outside, outside, IsGiven, Tells, Appends, Leaves, AreSaved}
+use Rattle.rewrite_cli.specs.Answer.{Stored, Stream, Outside, outside, IsGiven, Tells, Appends, LeavesRest, AreSaved}
 use Rattle.rewrite_cli.specs.Answer.{StayBut, IsMet, StopsBehind, HasCause, IsDone, LeavesAlone}
 use Rattle.rewrite_cli.specs.Counts.{no_counts}
 use Rattle.rewrite_cli.specs.Status.{is_from_outside, is_refusal, comes_first, keeps_files}
@@ -111,7 +111,7 @@ pub record IsReady (effect : Effect) (m : Files) (input : List ℕ) (before afte
   pub status_is : status ≡ effect.status
   pub report : report_of counts status ≡ effect.report
   pub output : Appends before.output.bytes after.output.bytes effect.output
-  pub rest : Leaves before.input.bytes after.input.bytes input effect.rest
+  pub rest : LeavesRest before.input.bytes after.input.bytes input effect.rest
 
 pub ready_met : (effect : Effect) (m : Files) (xs : List ℕ) (before after : Outside) (status answer : Status)
     (counts : Counts) (text : List ℕ) → answer ≡ status → text ≡ report_of counts answer

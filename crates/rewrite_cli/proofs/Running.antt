@@ -17,7 +17,7 @@ use Rattle.rewrite_cli.specs.Texts.{report_of}
 use Rattle.rewrite_cli.specs.Needs.{SameBut, names_of}
 use Rattle.rewrite_cli.specs.Status.{is_from_outside, comes_first}
 use Rattle.rewrite_cli.specs.Effect.{Moment, IsMomentOf, ran, status_of, status_of_end, dump_of}
-use Rattle.rewrite_cli.specs.Answer.{Stored, Stream, outside, Leaves, AreSaved, StayBut, StopsAt, RunsTo}
+use Rattle.rewrite_cli.specs.Answer.{Stored, Stream, outside, LeavesRest, AreSaved, StayBut, StopsAt, RunsTo}
 use Rattle.rewrite_cli.specs.declared.status.Status.{Status}
 use Rattle.rewrite_cli.specs.declared.status.Status.TheVariants.{OutOfMemory, WriteFault, StoreFault, ReadFault}
 use Rattle.rewrite_cli.proofs.Done.{same_but, IsReady, ready_met, ready_behind, kept_saving}
@@ -58,7 +58,7 @@ Grows = (n m : ℕ) (s : State) → n ≤ m → (more : List ℕ) × ((serial m 
 
 left_by : (answer : Status) (end : End) (before after : Option (List ℕ)) (xs left : List ℕ) → (answer ≡ ReadFault)
     ⊎ ((answer ≡ WriteFault) × (end ≡ SinkFault)) → (end ≡ SinkFault → after ≡ Some left)
-    → answer ≢ ReadFault → Leaves before after xs left
+    → answer ≢ ReadFault → LeavesRest before after xs left
 left_by answer end before after xs left (inl e) unread other told = absurd (other e)
 left_by answer end before after xs left (inr e) unread other told = unread e.1
 

@@ -57,8 +57,8 @@ AppendsPart before after bytes more =
     (ys : List ℕ) → before ≡ Some ys → (k : ℕ) × (after ≡ Some (ys ++ (bytes ++ take k more)))
 
 -- of all these bytes of an input those are left
-abbrev pub Leaves : Option (List ℕ) → Option (List ℕ) → List ℕ → List ℕ → Type 0
-Leaves before after all rest = before ≡ Some all → after ≡ Some rest
+abbrev pub LeavesRest : Option (List ℕ) → Option (List ℕ) → List ℕ → List ℕ → Type 0
+LeavesRest before after all rest = before ≡ Some all → after ≡ Some rest
 
 -- the files are those before, with these that are saved one after the other
 abbrev pub AreSaved : Files → Option Files → List File → Type 0
@@ -79,7 +79,7 @@ pub record IsMet (effect : Effect) (m : Files) (input : List ℕ) (before after 
   pub status : answer ≡ effect.status
   pub report : text ≡ effect.report
   pub output : Appends before.output.bytes after.output.bytes effect.output
-  pub rest : Leaves before.input.bytes after.input.bytes input effect.rest
+  pub rest : LeavesRest before.input.bytes after.input.bytes input effect.rest
   pub saved : before.store.files ≡ Some m → AreSaved m after.store.files effect.saved
 
 -- the outside tells what it told before
@@ -94,7 +94,7 @@ pub record StopsAt (moment : Moment) (Running : Type 0) (input : List ℕ) (befo
     Type 0 where
   pub why : (answer ≡ ReadFault) ⊎ ((answer ≡ WriteFault) ⊎ ((answer ≡ OutOfMemory) × Running))
   pub output : AppendsPart before.output.bytes after.output.bytes moment.output moment.more
-  pub rest : answer ≢ ReadFault → Leaves before.input.bytes after.input.bytes input moment.rest
+  pub rest : answer ≢ ReadFault → LeavesRest before.input.bytes after.input.bytes input moment.rest
   pub files : after.store.files ≡ before.store.files
 
 -- the command stopped behind all else, where so many of its files are saved: the store failed, or memory
@@ -103,7 +103,7 @@ pub record StopsBehind (effect : Effect) (Running : Type 0) (m : Files) (input :
     (answer : Status) : Type 0 where
   pub why : (answer ≡ StoreFault) ⊎ ((answer ≡ OutOfMemory) × (Running ⊎ (effect.saved ≢ [])))
   pub output : Appends before.output.bytes after.output.bytes effect.output
-  pub rest : Leaves before.input.bytes after.input.bytes input effect.rest
+  pub rest : LeavesRest before.input.bytes after.input.bytes input effect.rest
   pub count : ℕ
   pub some_left : (count ≡ 0) ⊎ (drop count effect.saved ≢ [])
   pub between : Files

@@ -4,6 +4,7 @@ pub mod Registers
 pub mod Fields
 pub mod Operations
 pub mod Table
+pub mod Fetched
 pub mod Form
 pub mod Row
 pub mod Range

@@ -54,7 +54,8 @@ high_product a b = cast_unsigned w128 (signed64 a *ℤ signed64 b) / 2 ^ 64
 
 -- the quotient of two numbers of 32 bits, as signed numbers
 abbrev pub divided32 : ℕ → ℕ → ℕ
-divided32 a b = if b == 0 then 2 ^ 64 - 1 else extended32 (cast_unsigned w32 (int_div (cast_signed w32 a) (cast_signed w32 b)))
+divided32 a b =
+    if b == 0 then 2 ^ 64 - 1 else extended32 (cast_unsigned w32 (int_div (cast_signed w32 a) (cast_signed w32 b)))
 
 -- the remainder of two numbers of 32 bits, as signed numbers
 abbrev pub remainder32 : ℕ → ℕ → ℕ
@@ -208,13 +209,15 @@ abbrev pub row : Instr → ℕ → List ℕ → Result ℕ MemFault → Outcome
 row (Upper op rd imm) pc regs told = onward pc (with_register regs rd (upper op pc imm))
 row (Jal rd imm) pc regs told = jump (plus_offset pc imm) regs (with_register regs rd (next_pc pc))
 row (Jalr rd rs1 imm) pc regs told =
-    let target = plus_offset (register regs rs1) imm in jump (target - target % 2) regs (with_register regs rd (next_pc pc))
+    let target = plus_offset (register regs rs1) imm in
+    jump (target - target % 2) regs (with_register regs rd (next_pc pc))
 row (Branch op rs1 rs2 imm) pc regs told =
     if taken op (register regs rs1) (register regs rs2) then jump (plus_offset pc imm) regs regs else onward pc regs
 row (Load op rd rs1 imm) pc regs told = loaded op rd (plus_offset (register regs rs1) imm) pc regs told
 row (Store op rs1 rs2 imm) pc regs told = stored (plus_offset (register regs rs1) imm) pc regs told
 row (AluImm op rd rs1 imm) pc regs told = onward pc (with_register regs rd (alu_imm op (register regs rs1) imm))
-row (Alu op rd rs1 rs2) pc regs told = onward pc (with_register regs rd (alu op (register regs rs1) (register regs rs2)))
+row (Alu op rd rs1 rs2) pc regs told =
+    onward pc (with_register regs rd (alu op (register regs rs1) (register regs rs2)))
 row (Fence rd rs1 imm) pc regs told = onward pc regs
 row Ecall pc regs told = record { next = Call; regs = regs }
 row Ebreak pc regs told = stopped Break pc regs

@@ -148,9 +148,15 @@ with_op make (Some op) = Some (make op)
 abbrev pub decoded : ℕ → Option Instr
 decoded w =
     if opcode w == 0x33 then with_op (λ op. Alu op (rd_of w) (rs1_of w) (rs2_of w)) (alu_by (funct3 w) (funct7 w)) else
-    if opcode w == 0x3B then with_op (λ op. Alu op (rd_of w) (rs1_of w) (rs2_of w)) (alu_w_by (funct3 w) (funct7 w)) else
-    if opcode w == 0x13 then with_op (λ op. AluImm op (rd_of w) (rs1_of w) (imm_for op w)) (imm_by (funct3 w) (funct6 w)) else
-    if opcode w == 0x1B then with_op (λ op. AluImm op (rd_of w) (rs1_of w) (imm_for op w)) (imm_w_by (funct3 w) (funct7 w)) else
+    if opcode w == 0x3B then
+    with_op (λ op. Alu op (rd_of w) (rs1_of w) (rs2_of w)) (alu_w_by (funct3 w) (funct7 w))
+    else
+    if opcode w == 0x13 then
+    with_op (λ op. AluImm op (rd_of w) (rs1_of w) (imm_for op w)) (imm_by (funct3 w) (funct6 w))
+    else
+    if opcode w == 0x1B then
+    with_op (λ op. AluImm op (rd_of w) (rs1_of w) (imm_for op w)) (imm_w_by (funct3 w) (funct7 w))
+    else
     if opcode w == 0x37 then Some (Upper Lui (rd_of w) (imm_u w)) else
     if opcode w == 0x17 then Some (Upper Auipc (rd_of w) (imm_u w)) else
     if opcode w == 0x03 then with_op (λ op. Load op (rd_of w) (rs1_of w) (imm_i w)) (load_by (funct3 w)) else

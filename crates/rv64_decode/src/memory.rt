@@ -3,12 +3,13 @@ ghost use Rattle.rv64_decode.specs.Area.{Area, bytes_of, load_of, store_of, afte
 ghost use Rattle.rv64_decode.specs.Ask.{Ask, Loads, Stores, Nothing};
 ghost use Rattle.rv64_decode.specs.declared.memory.Width.{Width};
 
-/// How many bytes a load or a store moves.
-#[derive(Clone, Copy, PartialEq, Eq, Debug)]
+/// How many bytes a load or a store moves; by default a word of 8 bytes.
+#[derive(Clone, Copy, PartialEq, Eq, Debug, Default)]
 pub enum Width {
     One,
     Two,
     Four,
+    #[default]
     Eight,
 }
 

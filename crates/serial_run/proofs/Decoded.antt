@@ -14,8 +14,9 @@ use Rattle.rv64_decode.specs.Row.{asks, outcome, onward, jump, loaded, stored, p
 use Rattle.guest_memory.specs.Layout.{AreasLieFrom, KeepAreas}
 use Rattle.guest_memory.proofs.Kept.{fetch-keeps}
 use Rattle.serial_run.specs.Serial.{State, ended, with_ending, after_call, after_instr, after_fetch, unless_ended, step}
-use Rattle.serial_run.specs.Runs.{Configuration, configuration_of, from_outside, is_port_fault, HasNumber, DoesCall, StandsAtCall, call_at, Acts, Keeps, WritesPart}
-use Rattle.serial_run.specs.Table.{instr_in, instr_at, EndsAt, IsFault, IsEntryOf, IsTableOf}
+use Rattle.serial_run.specs.Runs.{Configuration, configuration_of, from_outside, is_port_fault, CallsNumber, DoesCall, StandsAtCall, call_at, Acts, Keeps, WritesPart}
+use Rattle.rv64_decode.specs.Fetched.{instr_in, instr_at}
+use Rattle.serial_run.specs.Table.{EndsAt, IsFault, IsEntryOf, IsTableOf}
 use Rattle.serial_run.specs.declared.machine.Machine.{Machine}
 use Rattle.serial_run.specs.declared.machine.End.{End}
 use Rattle.serial_run.specs.declared.machine.End.TheVariants.{Exited, Faulted, Spent, ReadFault, WriteFault}
@@ -78,10 +79,10 @@ call_is_ecall Ebreak pc regs m e = cc
 
 -- it is the call at the state
 pub acts_call : (i : Instr) (m n : Machine) (r : Option (List ℕ)) (rf : ℕ) (w : Option (List ℕ)) (wf : ℕ) (d : Configuration)
-    → n ≡ m → i ≡ Ecall → Acts HasNumber (λ s. after_call s (call_at s)) (configuration_of n r rf w wf) d
+    → n ≡ m → i ≡ Ecall → Acts CallsNumber (λ s. after_call s (call_at s)) (configuration_of n r rf w wf) d
     → Acts (DoesCall i) (λ s. after_instr s i) (configuration_of m r rf w wf) d
 acts_call i m n r rf w wf d same ecall a =
-    let Q : Machine → Type 0 = λ v. Acts HasNumber (λ s. after_call s (call_at s)) (configuration_of v r rf w wf) d in
+    let Q : Machine → Type 0 = λ v. Acts CallsNumber (λ s. after_call s (call_at s)) (configuration_of v r rf w wf) d in
     let P : Instr → Type 0 = λ j. Acts (DoesCall j) (λ s. after_instr s j) (configuration_of m r rf w wf) d in
     let b = subst Q same a in
     subst P (sym ecall) (record {

@@ -7,7 +7,7 @@ use Rattle.rv64_decode.specs.declared.instr.Instr.TheVariants.{Ecall}
 use Rattle.guest_calls.specs.Calls.{Called, called, a1, a2, a7}
 use Rattle.guest_calls.specs.Faults.{ChangesInBuffer, SendsPart}
 use Rattle.serial_run.specs.Serial.{State, ended, serial}
-use Rattle.serial_run.specs.Table.{instr_at}
+use Rattle.rv64_decode.specs.Fetched.{instr_at}
 use Rattle.serial_run.specs.declared.machine.Machine.{Machine}
 use Rattle.serial_run.specs.declared.machine.End.{End}
 use Rattle.serial_run.specs.declared.machine.End.TheVariants.{Exited, Faulted, Spent, ReadFault, WriteFault}
@@ -49,17 +49,17 @@ pub record Keeps (c d : Configuration) : Type 0 where
   pub output_never_falls : c.write_faults ≤ d.write_faults
 
 -- a machine's number of a call is this
-abbrev pub HasNumber : ℕ → Machine → Type 0
-HasNumber n m = a7 m.regs ≡ n
+abbrev pub CallsNumber : ℕ → Machine → Type 0
+CallsNumber n m = a7 m.regs ≡ n
 
 -- the instruction is the call of this number
 abbrev pub DoesCall : Instr → ℕ → Machine → Type 0
-DoesCall i n m = (i ≡ Ecall) × HasNumber n m
+DoesCall i n m = (i ≡ Ecall) × CallsNumber n m
 
 -- the instruction at pc is the call of this number
 pub record StandsAtCall (n : ℕ) (m : Machine) : Type 0 where
   pub instr : instr_at m.memory m.pc ≡ Some Ecall
-  pub number : HasNumber n m
+  pub number : CallsNumber n m
 
 -- the source tells what is unread at a state, where one of n instructions from there on reads (63)
 abbrev pub TellsReads : ℕ → State → Option (List ℕ) → Type 0

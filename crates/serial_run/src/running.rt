@@ -2,9 +2,9 @@ ghost use Rattle.std.specs.Prelude.{◌≡◌, ◌≢◌, ◌≤◌, ℕ, false,
 ghost use Rattle.elf_image.specs.Layout.{IsLoadable};
 ghost use Rattle.serial_run.specs.Serial.{State, start_machine, after_call, after_instr, step, executed_of};
 ghost use Rattle.guest_memory.specs.Layout.{KeepAreas};
-ghost use Rattle.serial_run.specs.Table.{instr_at};
+ghost use Rattle.rv64_decode.specs.Fetched.{instr_at};
 ghost use Rattle.serial_run.specs.Runs.{is_port_fault, configuration_of, call_at, Keeps, Acts, Runs};
-ghost use Rattle.serial_run.specs.Runs.{HasNumber, DoesCall, StandsAtCall, TellsReads, NeverCalls};
+ghost use Rattle.serial_run.specs.Runs.{CallsNumber, DoesCall, StandsAtCall, TellsReads, NeverCalls};
 
 use crate::machine::{End, Machine, end_at};
 use crate::table::{Entry, PLACES, find_instr, instr_from};
@@ -44,15 +44,15 @@ pub fn start(alloc: Global, elf: &Elf) -> Result<Machine, AllocError>
 // Answers a call at pc.
 fn answer_call<I: Source, O: Sink>(m: &mut Machine, input: &mut I, out: &mut O)
     requires { m.old.ended ≡ None }
-    ensures acts { Acts HasNumber (λ s. after_call s (call_at s))
+    ensures acts { Acts CallsNumber (λ s. after_call s (call_at s))
         (configuration_of m.old (I.rest input.old) (I.faults input.old) (O.written out.old) (O.faults out.old))
         (configuration_of m.new (I.rest input.new) (I.faults input.new) (O.written out.new) (O.faults out.new)) }
     ensures keeps { Keeps
         (configuration_of m.old (I.rest input.old) (I.faults input.old) (O.written out.old) (O.faults out.old))
         (configuration_of m.new (I.rest input.new) (I.faults input.new) (O.written out.new) (O.faults out.new)) }
     ensures areas { KeepAreas m.old.memory m.new.memory }
-    ensures takes_nothing { ¬ HasNumber 63 m.old → input.new ≡ input.old }
-    ensures sends_nothing { ¬ HasNumber 64 m.old → out.new ≡ out.old }
+    ensures takes_nothing { ¬ CallsNumber 63 m.old → input.new ≡ input.old }
+    ensures sends_nothing { ¬ CallsNumber 64 m.old → out.new ≡ out.old }
 {
     match call(&mut m.regs, &mut m.memory, &mut m.brk, input, out) {
         Ok(Going::On) => m.pc = m.pc.wrapping_add(4),

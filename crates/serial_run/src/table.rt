@@ -1,5 +1,6 @@
 ghost use Rattle.std.specs.Prelude.{◌≡◌, ◌/◌, ◌%◌, ℕ, length, slice_index_or, true, false, Some, IfOk, IfErr, IfSome, IsNone};
-ghost use Rattle.serial_run.specs.Table.{EndsAt, IsTableOf, instr_at};
+ghost use Rattle.rv64_decode.specs.Fetched.{instr_at};
+ghost use Rattle.serial_run.specs.Table.{EndsAt, IsTableOf};
 ghost use Rattle.serial_run.specs.declared.table.Entry.{Entry as Shown};
 
 use crate::machine::End;

@@ -9,7 +9,7 @@ use Rattle.strong_components.specs.declared.graph.Successors.{Successors}
 use Rattle.strong_components.specs.declared.search.Search.{Search}
 use Rattle.strong_components.specs.declared.search.Mark.{Mark}
 use Rattle.strong_components.specs.declared.search.Mark.TheVariants.{Unseen, Open, Closed}
-use Rattle.strong_components.specs.Graph.{IsEdge, IsPath, Reaches}
+use Rattle.strong_components.specs.Graph.{IsEdge, IsPath, HasPath}
 use Rattle.strong_components.specs.Search.{is_unseen, number_of, IsState, IsSound}
 use Rattle.strong_components.proofs.States.{mark_cases, idle_empty}
 
@@ -83,7 +83,7 @@ path_order nodes numbers order (x ∷ xs) a b p = let l = order a x p.0 in let m
 
 -- two nodes have the same number exactly where each is reached from the other
 pub same_component : (nodes : List Successors) (s : Search) → IsSound nodes s → ((v : ℕ) → v < length nodes → IsNumbered s.marks.items v) → (a b : ℕ) → a < length nodes → b < length nodes
-    → (get_or (map number_of s.marks.items) a 0 ≡ get_or (map number_of s.marks.items) b 0) ↔ (Reaches nodes a b × Reaches nodes b a)
+    → (get_or (map number_of s.marks.items) a 0 ≡ get_or (map number_of s.marks.items) b 0) ↔ (HasPath nodes a b × HasPath nodes b a)
 same_component nodes s state all a b in_a in_b =
     let one = all a in_a in let two = all b in_b in
     let numbers = map number_of s.marks.items in

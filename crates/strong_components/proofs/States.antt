@@ -10,7 +10,7 @@ use Rattle.strong_components.specs.declared.graph.Successors.{Successors}
 use Rattle.strong_components.specs.declared.search.Search.{Search}
 use Rattle.strong_components.specs.declared.search.Mark.{Mark}
 use Rattle.strong_components.specs.declared.search.Mark.TheVariants.{Unseen, Open, Closed}
-use Rattle.strong_components.specs.Graph.{IsEdge, LeadsTo, LeadsInside, Reaches}
+use Rattle.strong_components.specs.Graph.{IsEdge, LeadsTo, LeadsInside, HasPath}
 use Rattle.strong_components.specs.Search.{IsLast, IsCut, unseen_count, closed_from, IsDone, IsClosedBy, IsEntered, IsMerged, IsReady, IsSound, KeepsSeen, work_left, IsState}
 use Rattle.strong_components.proofs.Lists.{get_push_same, get_push_old, get_push_cases, get_set_same, get_set_other, get_set_cases, get_take, get_take_some, contains_from_get, Rises_push, Rises_pop, last_greatest}
 use Rattle.strong_components.proofs.Paths.{edge_from, reaches_self, reaches_through, reaches_next}
@@ -24,14 +24,14 @@ unseen_count-open marks w k unseen =
     omega arith
 
 -- every open node reaches what the last one of the path leads to
-pub led_by : (nodes : List Successors) (marks : List Mark) (stack bounds path : List ℕ) (count t u w : ℕ) → IsState nodes marks stack bounds path count → IsLast path t → slice_get stack t ≡ Some u → IsEdge nodes u w → (i v : ℕ) → slice_get stack i ≡ Some v → Reaches nodes v w
+pub led_by : (nodes : List Successors) (marks : List Mark) (stack bounds path : List ℕ) (count t u w : ℕ) → IsState nodes marks stack bounds path count → IsLast path t → slice_get stack t ≡ Some u → IsEdge nodes u w → (i v : ℕ) → slice_get stack i ≡ Some v → HasPath nodes v w
 led_by nodes marks stack bounds path count t u w s is_last at edge i v here =
     reaches_through nodes v u w
     (s.joined i t v u here at (λ b has low. last_greatest path t b s.path_rises is_last (s.bounds_on_path b has)))
     (reaches_next nodes u w edge)
 
 -- an unseen node is opened, which all open nodes reach
-pub state_enter : (nodes : List Successors) (marks : List Mark) (stack bounds path : List ℕ) (count w : ℕ) → IsState nodes marks stack bounds path count → slice_get marks w ≡ Some Unseen → ((i u : ℕ) → slice_get stack i ≡ Some u → Reaches nodes u w)
+pub state_enter : (nodes : List Successors) (marks : List Mark) (stack bounds path : List ℕ) (count w : ℕ) → IsState nodes marks stack bounds path count → slice_get marks w ≡ Some Unseen → ((i u : ℕ) → slice_get stack i ≡ Some u → HasPath nodes u w)
     → IsState nodes (set marks w (Open (length stack))) (stack ++ w ∷ []) (bounds ++ length stack ∷ []) (path ++ length stack ∷ []) count
 state_enter nodes marks stack bounds path count w s unseen led =
     let k = length stack in
@@ -67,11 +67,11 @@ state_enter nodes marks stack bounds path count w s unseen led =
       joined = λ i j u v a b above. elim (get_push_cases stack w u i a) [
         | inl old_i ↦ elim (get_push_cases stack w v j b) [
           | inl old_j ↦ s.joined i j u v old_i old_j (λ x has low. above x (Contains-append_left bounds (k ∷ []) x has) low)
-          | inr new_j ↦ subst (Reaches nodes u) new_j.1 (led i u old_i)
+          | inr new_j ↦ subst (HasPath nodes u) new_j.1 (led i u old_i)
         ]
         | inr new_i ↦ elim (get_push_cases stack w v j b) [
           | inl old_j ↦ absurd (let low = above k (Contains-push bounds k) (let a = new_i.0 in omega arith) in let l = slice_get_within stack j v old_j in omega arith)
-          | inr new_j ↦ subst (λ x. Reaches nodes x v) new_i.1 (subst (Reaches nodes w) new_j.1 (reaches_self nodes w))
+          | inr new_j ↦ subst (λ x. HasPath nodes x v) new_i.1 (subst (HasPath nodes w) new_j.1 (reaches_self nodes w))
         ]
       ];
       done = λ i u x a off edge. elim (get_push_cases stack w u i a) [
@@ -301,7 +301,7 @@ state_ready nodes marks stack bounds path count t u node fewer fewest s is_last 
     )
 
 -- an unseen node was opened
-pub entered_state : (nodes : List Successors) (s n : Search) (w : ℕ) → IsSound nodes s → slice_get s.marks.items w ≡ Some Unseen → ((i u : ℕ) → slice_get s.stack.items i ≡ Some u → Reaches nodes u w) → IsEntered s n w → IsSound nodes n
+pub entered_state : (nodes : List Successors) (s n : Search) (w : ℕ) → IsSound nodes s → slice_get s.marks.items w ≡ Some Unseen → ((i u : ℕ) → slice_get s.stack.items i ≡ Some u → HasPath nodes u w) → IsEntered s n w → IsSound nodes n
 entered_state nodes s n w state unseen led e =
     rw (e.marks, e.stack, e.bounds, e.path, e.count) (state_enter nodes s.marks.items s.stack.items s.bounds.items s.path.items s.count w state unseen led)
 

@@ -22,6 +22,6 @@ IsPath nodes [] a b = a ≡ b
 IsPath nodes (x ∷ xs) a b = IsEdge nodes a x × IsPath nodes xs x b
 
 -- a path leads from a to b
-pub record Reaches (nodes : List Successors) (a b : ℕ) : Type 0 where
+pub record HasPath (nodes : List Successors) (a b : ℕ) : Type 0 where
   pub through : List ℕ
   pub path : IsPath nodes through a b

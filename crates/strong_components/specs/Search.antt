@@ -4,7 +4,7 @@ use Rattle.strong_components.specs.declared.graph.Successors.{Successors}
 use Rattle.strong_components.specs.declared.search.Mark.{Mark}
 use Rattle.strong_components.specs.declared.search.Mark.TheVariants.{Unseen, Open, Closed}
 use Rattle.strong_components.specs.declared.search.Search.{Search}
-use Rattle.strong_components.specs.Graph.{IsEdge, Reaches}
+use Rattle.strong_components.specs.Graph.{IsEdge, HasPath}
 
 -- each number of a list is above those before it
 abbrev pub Rises : List ℕ → Type 0
@@ -74,14 +74,14 @@ pub record IsState (nodes : List Successors) (marks : List Mark) (stack bounds p
   pub bounds_on_path : (b : ℕ) → Contains bounds b → Contains path b
   pub first_bound : 0 < length stack → Contains bounds 0
   pub joined : (i j u v : ℕ) → slice_get stack i ≡ Some u → slice_get stack j ≡ Some v
-      → AtOrAbove bounds i j → Reaches nodes u v
+      → AtOrAbove bounds i j → HasPath nodes u v
   pub done : (i u w : ℕ) → slice_get stack i ≡ Some u → (Contains path i → ⊥)
       → IsEdge nodes u w → IsDone marks bounds i w
   pub closed_edges : (u w c : ℕ) → slice_get marks u ≡ Some (Closed c)
       → IsEdge nodes u w → IsClosedBy marks w c
   pub closed_below : (u c : ℕ) → slice_get marks u ≡ Some (Closed c) → c < count
   pub closed_joined : (u v c : ℕ) → slice_get marks u ≡ Some (Closed c)
-      → slice_get marks v ≡ Some (Closed c) → Reaches nodes u v
+      → slice_get marks v ≡ Some (Closed c) → HasPath nodes u v
   pub counted : count + length bounds + unseen_count marks ≤ length nodes
   pub stacked : length stack + unseen_count marks ≤ length nodes
 

@@ -7,7 +7,7 @@ mod search;
 mod tests;
 
 ghost use Rattle.std.specs.Prelude.{ℕ, ◌≡◌, ◌+◌, ◌<◌, ◌≤◌, ◌^◌, ◌↔◌, length, slice_index, vec_len, IfOk};
-ghost use Rattle.strong_components.specs.Graph.{IsEdge, LeadsInside, Reaches};
+ghost use Rattle.strong_components.specs.Graph.{IsEdge, LeadsInside, HasPath};
 
 pub use graph::{Successors, leads_inside};
 use search::Search;
@@ -25,7 +25,7 @@ pub fn components(alloc: Global, nodes: &[Successors]) -> Result<Vec<u32>, Alloc
         → slice_index numbers.items a < length nodes.now) }
     ensures same { IfOk result (λ numbers. (a b : ℕ) → a < length nodes.now → b < length nodes.now
         → (slice_index numbers.items a ≡ slice_index numbers.items b)
-        ↔ (Reaches nodes.now a b × Reaches nodes.now b a)) }
+        ↔ (HasPath nodes.now a b × HasPath nodes.now b a)) }
     ensures order { IfOk result (λ numbers. (a b : ℕ) → IsEdge nodes.now a b
         → slice_index numbers.items b ≤ slice_index numbers.items a) }
 {

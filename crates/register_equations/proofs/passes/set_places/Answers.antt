@@ -2,7 +2,7 @@ use Rattle.std.proofs.Common.{◌∙◌, ℕ, List, get_or, length, arith, ap, s
 use Rattle.loop_data.specs.Flows.{rows, IsWholeOrder}
 use Rattle.loop_data.specs.Locations.{no_cells}
 use Rattle.loop_data.specs.LoopCode.{code_of}
-use Rattle.register_equations.specs.States.{IsPlace}
+use Rattle.register_equations.specs.States.{IsFormPlace}
 use Rattle.register_equations.proofs.Ending.{set_ats, counted, place_more, row_within, row_some, all_solved}
 use Rattle.register_equations.proofs.passes.set_places.Goals as goal
 
@@ -37,4 +37,4 @@ returns c =
     let n = ap (λ (xs : List ℕ). length xs) c.requires.order in
     all_solved c.args.graph.now c.args.levels.now c.requires.nest c.args.root.now c.args.inner.now c.requires.split c.args.classes.now c.args.flow.now c.loop-i.points.items c.requires.flow w
     (λ j l. let t = c.loop-i-test.false in
-    subst (λ (xs : List ℕ). IsPlace B c.args.levels.now c.args.inner.now c.args.root.now c.args.classes.now (rows c.args.flow.now.sources.items) c.args.flow.now.instrs.items c.loop-i.points.items (get_or xs j 0)) c.requires.order (c.loop-i.invariant.1 j (omega arith)))
+    subst (λ (xs : List ℕ). IsFormPlace B c.args.levels.now c.args.inner.now c.args.root.now c.args.classes.now (rows c.args.flow.now.sources.items) c.args.flow.now.instrs.items c.loop-i.points.items (get_or xs j 0)) c.requires.order (c.loop-i.invariant.1 j (omega arith)))
