@@ -37,7 +37,7 @@ none_writes_it B (x ∷ xs) r u e h = go (writes B x r) refl e (x == u) refl h (
     go false w f true g h later = subst (λ y. writes B y r ≡ false) (eq_of x u g) w
     go false w f false g h later = later f h
 
-lost_somewhere : (B : LoopCode) (ls : List Level) (v r : ℕ) → lost_by B ls v r ≡ true → (m : Level) × In ls m × (v ≡ m.header) × (any_writes B m.body r ≡ true)
+pub lost_somewhere : (B : LoopCode) (ls : List Level) (v r : ℕ) → lost_by B ls v r ≡ true → (m : Level) × In ls m × (v ≡ m.header) × (any_writes B m.body r ≡ true)
 lost_somewhere B [] v r e = absurd (cc)
 lost_somewhere B (x ∷ xs) v r e = go ((x.header == v) && any_writes B x.body r) refl e (lost_somewhere B xs v r)
   where
@@ -45,7 +45,7 @@ lost_somewhere B (x ∷ xs) v r e = go ((x.header == v) && any_writes B x.body r
     go true f g rest = let a = and_true (x.header == v) (any_writes B x.body r) f in (x, inl refl, sym (eq_of x.header v a.0), a.1)
     go false f g rest = let s = rest g in (s.0, inr s.1, s.2, s.3)
 
-lost_nowhere : (B : LoopCode) (ls : List Level) (v r : ℕ) → lost_by B ls v r ≡ false → (m : Level) → In ls m → v ≡ m.header → any_writes B m.body r ≡ false
+pub lost_nowhere : (B : LoopCode) (ls : List Level) (v r : ℕ) → lost_by B ls v r ≡ false → (m : Level) → In ls m → v ≡ m.header → any_writes B m.body r ≡ false
 lost_nowhere B [] v r e m i h = absurd i
 lost_nowhere B (x ∷ xs) v r e m i h = go (x.header == v) refl (any_writes B x.body r) refl e i (λ f j. lost_nowhere B xs v r f m j h)
   where

@@ -54,7 +54,12 @@ abbrev pub ArrivalLaw : Type 0
 ArrivalLaw = (l : Level) (s : State) (n : ℕ) → s.next ≡ At l.header
     → IsArrival l s (turn l s n) (arrival l s n) × (arrival l s n ≤ n)
 
--- the equations of the pass over a loop have one solution
+-- the equations of the pass over a loop have a solution
+abbrev pub SomePassLaw : Type 0
+SomePassLaw = (N : Nest) (B : LoopCode) (l : Level) → IsNest N → Among N l
+    → (V : ℕ → ℕ → Option Fact) × AreFacts N B l V
+
+-- and no other at the words of the loop
 abbrev pub OnePassLaw : Type 0
 OnePassLaw = (N : Nest) (B : LoopCode) (l : Level) (V W : ℕ → ℕ → Option Fact) → IsNest N → Among N l
     → AreFacts N B l V → AreFacts N B l W → (v r : ℕ) → Holds l v → V v r ≡ W v r

@@ -1,4 +1,4 @@
-ghost use Rattle.loop_data.specs.FactLaws.{FactLaw, ArrivalLaw, OnePassLaw};
+ghost use Rattle.loop_data.specs.FactLaws.{FactLaw, ArrivalLaw, SomePassLaw, OnePassLaw};
 
 /// Where a run executes the words of a nest without cells, and no sum of 32 bits of a location's value loses
 /// bits, each location with a fact in the root's pass has the value that the fact gives.
@@ -7,7 +7,9 @@ pub fn facts_hold()
     ensures arrival { ArrivalLaw }
 {}
 
-/// What the pass over a loop knows at each word is determined by its equations.
+/// What the pass over a loop knows at each word is determined by its equations: they have a solution, and
+/// no two.
 pub fn one_pass()
-    ensures { OnePassLaw }
+    ensures some { SomePassLaw }
+    ensures only { OnePassLaw }
 {}
