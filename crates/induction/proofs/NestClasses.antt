@@ -1,9 +1,10 @@
 -- The classes of the loops of a nest.
-use Rattle.std.proofs.Common.{◌≡◌, ◌≢◌, ℕ, zero, suc, ◌+◌, ◌-◌, ◌<◌, ◌≤◌, ◌⊎◌, inl, inr, Bool, true, false, List, [], length, get_or, set, replicate, Option, Some, None, refl, ap, sym, ◌∙◌, subst, arith}
+use Rattle.std.proofs.Common.{◌≡◌, ◌≢◌, ℕ, zero, suc, ◌+◌, ◌-◌, ◌<◌, ◌≤◌, ◌⊎◌, inl, inr, ℤ, Bool, true, false, List, [], length, get_or, set, replicate, Option, Some, None, refl, ap, sym, ◌∙◌, subst, arith}
 use Rattle.std.specs.List.{All}
 use Rattle.std.specs.List.Sorted.{IsStrictlyIncreasing}
 use Rattle.std.proofs.lemmas.Bool.{cases_eq, cases_lt}
 use Rattle.std.proofs.lemmas.List.{get_or-set_same, get_or-set_other, length-set, get_or_default}
+use Rattle.linear_forms.specs.Forms.{is_small}
 use Rattle.linear_forms.specs.declared.location.Loc.{Loc}
 use Rattle.loop_data.specs.declared.cells.Cells.{Cells}
 use Rattle.loop_data.specs.declared.classes.Class.{Class}
@@ -11,21 +12,24 @@ use Rattle.loop_data.specs.declared.classes.Class.TheVariants.{Induction, Privat
 use Rattle.loop_data.specs.declared.classes.Classes.{Classes}
 use Rattle.loop_data.specs.declared.graph.Graph.{Graph}
 use Rattle.loop_data.specs.declared.shape.Level.{Level}
-use Rattle.loop_data.specs.Nests.{Nest, In}
+use Rattle.loop_data.specs.Nests.{Nest, In, nest_of}
 use Rattle.loop_data.specs.Locations.{CellMap, no_cells}
 use Rattle.loop_data.specs.LoopWords.{AreNest}
 use Rattle.loop_data.specs.LoopCode.{LoopCode, code_of, any_writes, writes, IsUnwritten, IsWritten}
 use Rattle.loop_data.specs.Lookups.{cell_map, role_by}
-use Rattle.loop_data.specs.Classes.{FactsOf, HasRole, HasInnerRole}
-use Rattle.loop_data.specs.Results.{IsNestOf}
+use Rattle.loop_data.specs.Classes.{IsInduction, HasRole, HasInnerRole}
+use Rattle.loop_data.specs.Facts.{Fact}
+use Rattle.loop_data.specs.FactPass.{AreFacts}
+use Rattle.loop_data.specs.Results.{IsNestOf, AreSmall}
 use Rattle.loop_data.proofs.Tests.{true_or_false, yes_no}
 use Rattle.loop_data.proofs.FactUnique.{some_writes_it, none_writes_it}
 use Rattle.loop_data.proofs.FlowEdges.{listed_in, levels_ordered}
+use Rattle.loop_data.proofs.FactsExist.{facts_exist}
 use Rattle.induction.specs.declared.words.Words.{Words}
 use Rattle.induction.specs.Words.{AreWords, IsLoopOf}
 use Rattle.induction.specs.Rows.{HasClass, HasInnerClass, IsMoving, TellsRow, TellsInnerRow, IsLeastAt}
-use Rattle.induction.specs.Results.{AreFactsOfAll, class_in, class_at, IsRootRow, IsInnerRow, AreInnerRows, AreClasses, IsLeastCarried}
-use Rattle.induction.proofs.PlaceMarks.{levels_of}
+use Rattle.induction.specs.Results.{class_in, class_at, IsRootRow, IsInnerRow, AreInnerRows, AreClasses, IsLeastCarried}
+use Rattle.induction.proofs.PlaceMarks.{levels_of, is_nest}
 use Rattle.induction.proofs.WordLists.{cells_none, rises_at}
 
 -- the loop at a place among the levels, with what is known at its words
@@ -35,10 +39,10 @@ pub record IsAt (G : Graph) (ls : List Level) (i : ℕ) (l : Level) (w : Words) 
   pub here : l ≡ get_or ls i l
   pub words : (m : Level) → get_or ls i m ≡ m → AreWords G ls m w
 
-loop_of : (G : Graph) (ls : List Level) (i : ℕ) (l : Level) (w : Words) → IsAt G ls i l w → (N : Nest) (V : FactsOf) → IsNestOf G ls N → AreFactsOfAll N (code_of G no_cells) V → IsLoopOf G ls N l (V l) w
-loop_of G ls i l w at N V of all =
+loop_of : (G : Graph) (ls : List Level) (i : ℕ) (l : Level) (w : Words) → IsAt G ls i l w → (N : Nest) (V : ℕ → ℕ → Option Fact) → IsNestOf G ls N → AreFacts N (code_of G no_cells) l V → IsLoopOf G ls N l V w
+loop_of G ls i l w at N V of facts =
     let among = subst (λ (xs : List Level). In xs l) (levels_of G ls N of) (listed_in ls i l at.within (sym at.here)) in
-    record { nest = at.nest; of = of; among = among; words = at.words l (sym at.here); facts = all l among }
+    record { nest = at.nest; of = of; among = among; words = at.words l (sym at.here); facts = facts }
 
 root_is : (G : Graph) (ls : List Level) (l : Level) (N : Nest) → l ≡ get_or ls 0 l → IsNestOf G ls N → l ≡ N.root
 root_is G ls l N e of = e ∙ ap (λ (xs : List Level). get_or xs 0 l) (levels_of G ls N of)
@@ -46,21 +50,23 @@ root_is G ls l N e of = e ∙ ap (λ (xs : List Level). get_or xs 0 l) (levels_o
 pub root_row_is : (G : Graph) (ls : List Level) (l : Level) (w : Words) (row : List (Option Class)) (c : Cells) → c.list.items ≡ [] → c.uses.items ≡ [] → IsAt G ls 0 l w → TellsRow ls l w row 48 → IsRootRow G ls (cell_map c) row
 root_row_is G ls l w row c none unused at tells =
     subst (λ (C : CellMap). IsRootRow G ls C row) (sym (cells_none c none unused))
-    (λ N V r of all lt. tells r lt G N V (loop_of G ls 0 l w at N V of all) (root_is G ls l N at.here of))
+    (λ N V r of all lt. let root = root_is G ls l N at.here of in
+        tells r lt G N V (loop_of G ls 0 l w at N V of (subst (λ (x : Level). AreFacts N (code_of G no_cells) x V) (sym root) all)) root)
 
 pub least_is : (G : Graph) (ls : List Level) (l : Level) (w : Words) (loc : Loc) (c : Cells) → c.list.items ≡ [] → c.uses.items ≡ [] → IsAt G ls 0 l w → IsLeastAt ls l w loc → IsLeastCarried G ls (cell_map c) loc
 least_is G ls l w loc c none unused at least =
     subst (λ (C : CellMap). IsLeastCarried G ls C loc) (sym (cells_none c none unused))
-    (λ N V of all. least G N V (loop_of G ls 0 l w at N V of all) (root_is G ls l N at.here of))
+    (λ N V of all. let root = root_is G ls l N at.here of in
+        least G N V (loop_of G ls 0 l w at N V of (subst (λ (x : Level). AreFacts N (code_of G no_cells) x V) (sym root) all)) root)
 
 pub inner_row_is : (G : Graph) (ls : List Level) (i : ℕ) (l : Level) (w : Words) (row : List (Option Class)) (c : Cells) → c.list.items ≡ [] → c.uses.items ≡ [] → IsAt G ls i l w → TellsInnerRow ls l w row 48 → IsInnerRow G ls (cell_map c) i row
 inner_row_is G ls i l w row c none unused at tells =
     subst (λ (C : CellMap). IsInnerRow G ls C i row) (sym (cells_none c none unused)) (record { moving = λ r lt. (tells r lt).0; each = each })
   where
-    each : (N : Nest) (V : FactsOf) (m : Level) (r : ℕ) → IsNestOf G ls N → AreFactsOfAll N (code_of G no_cells) V → get_or ls i m ≡ m → r < 48 → HasInnerClass N (code_of G no_cells) V m r (class_in row r)
+    each : (N : Nest) (V : ℕ → ℕ → Option Fact) (m : Level) (r : ℕ) → IsNestOf G ls N → AreFacts N (code_of G no_cells) m V → get_or ls i m ≡ m → r < 48 → HasInnerClass N (code_of G no_cells) V m r (class_in row r)
     each N V m r of all e lt =
         let q = at.here ∙ get_or_default ls i l m at.within ∙ e in
-        subst (λ (x : Level). HasInnerClass N (code_of G no_cells) V x r (class_in row r)) q ((tells r lt).1 G N V (loop_of G ls i l w at N V of all))
+        subst (λ (x : Level). HasInnerClass N (code_of G no_cells) V x r (class_in row r)) q ((tells r lt).1 G N V (loop_of G ls i l w at N V of (subst (λ (x : Level). AreFacts N (code_of G no_cells) x V) (sym q) all)))
 
 -- no rows yet, and one row more
 no_class : (n r : ℕ) → class_in (replicate n None) r ≡ None
@@ -104,7 +110,7 @@ none_written B l r none = by (true_or_false (any_writes B l.body r))
     by (inl t) = let w = some_writes_it B l.body r t in absurd (yes_no (writes B w.0 r) w.2 (none w.0 w.1))
     by (inr f) = f
 
-role_is : (N : Nest) (B : LoopCode) (V : FactsOf) (r : ℕ) (c : Option Class) (b : Bool) → any_writes B N.root.body r ≡ b → HasClass N B V r c → HasRole N B V r (role_by b c)
+role_is : (N : Nest) (B : LoopCode) (V : ℕ → ℕ → Option Fact) (r : ℕ) (c : Option Class) (b : Bool) → any_writes B N.root.body r ≡ b → HasClass N B V r c → HasRole N B V r (role_by b c)
 role_is N B V r None true e h = absurd (yes_no (any_writes B N.root.body r) e (none_written B N.root r h))
 role_is N B V r None false e h = h
 role_is N B V r (Some (Induction z)) true e h = h
@@ -112,7 +118,7 @@ role_is N B V r (Some (Induction z)) false e h = h
 role_is N B V r (Some Private) true e h = h
 role_is N B V r (Some Private) false e h = h
 
-inner_role_is : (N : Nest) (B : LoopCode) (V : FactsOf) (l : Level) (r : ℕ) (c : Option Class) (b : Bool) → any_writes B l.body r ≡ b → HasInnerClass N B V l r c → HasInnerRole N B V l r (role_by b c)
+inner_role_is : (N : Nest) (B : LoopCode) (V : ℕ → ℕ → Option Fact) (l : Level) (r : ℕ) (c : Option Class) (b : Bool) → any_writes B l.body r ≡ b → HasInnerClass N B V l r c → HasInnerRole N B V l r (role_by b c)
 inner_role_is N B V l r None true e h = (any_written B l r e, h)
 inner_role_is N B V l r None false e h = λ u i. none_writes_it B l.body r u e i
 inner_role_is N B V l r (Some (Induction z)) true e h = h
@@ -127,22 +133,29 @@ not_private (Some Private) m e = m
 none_private : (c : Option Class) → c ≡ None → c ≢ Some Private
 none_private c e f = absurd (cc)
 
-is_kept : (N : Nest) (B : LoopCode) (V : FactsOf) (r : ℕ) (c : Option Class) → c ≡ None → HasClass N B V r c → IsUnwritten B N.root r
+is_kept : (N : Nest) (B : LoopCode) (V : ℕ → ℕ → Option Fact) (r : ℕ) (c : Option Class) → c ≡ None → HasClass N B V r c → IsUnwritten B N.root r
 is_kept N B V r c e h = subst (HasClass N B V r) e h
 
-pub classes_are : (G : Graph) (ls : List Level) (C : CellMap) (c : Classes) → IsRootRow G ls C c.root → AreInnerRows G ls C (length ls) c.inner → AreClasses G ls C c
-classes_are G ls C c root rows = record {
+small_step : (N : Nest) (B : LoopCode) (V : ℕ → ℕ → Option Fact) (r : ℕ) (c : Option Class) (step : ℤ) → c ≡ Some (Induction step) → HasClass N B V r c → is_small step ≡ true
+small_step N B V r c step e h = let k : IsInduction N B V N.root r step = subst (HasClass N B V r) e h in k.small
+
+small_inner : (N : Nest) (B : LoopCode) (V : ℕ → ℕ → Option Fact) (l : Level) (r : ℕ) (c : Option Class) (step : ℤ) → c ≡ Some (Induction step) → HasInnerClass N B V l r c → is_small step ≡ true
+small_inner N B V l r c step e h = let k : IsInduction N B V l r step = subst (HasInnerClass N B V l r) e h in k.small
+
+pub classes_are : (G : Graph) (ls : List Level) (C : CellMap) (c : Classes) → AreNest G ls → IsRootRow G ls C c.root → AreInnerRows G ls C (length ls) c.inner → AreClasses G ls C c
+classes_are G ls C c nest root rows = record {
   root = λ N V r of all lt. role_is N (code_of G C) V r (class_in c.root r) (any_writes (code_of G C) N.root.body r) refl (root N V r of all lt);
-  unwritten = λ N V r of all lt e. is_kept N (code_of G C) V r (class_in c.root r) e (root N V r of all lt);
+  unwritten = λ N r of lt e. let facts = root_facts N of in is_kept N (code_of G C) facts.0 r (class_in c.root r) e (root N facts.0 r of facts.1 lt);
   inner = inner;
   moving = moving;
   beyond = beyond;
+  steps = record { root = root_small; inner = inner_small };
 }
   where
     long : (N : Nest) → IsNestOf G ls N → length ls ≡ suc (length N.inner)
     long N of = ap (λ (xs : List Level). length xs) (levels_of G ls N of)
 
-    inner : (N : Nest) (V : FactsOf) (l : Level) (i r : ℕ) → IsNestOf G ls N → AreFactsOfAll N (code_of G C) V → i < length N.inner → get_or N.inner i l ≡ l → r < 48 → HasInnerRole N (code_of G C) V l r (role_by (any_writes (code_of G C) l.body r) (class_at c.inner i r))
+    inner : (N : Nest) (V : ℕ → ℕ → Option Fact) (l : Level) (i r : ℕ) → IsNestOf G ls N → AreFacts N (code_of G C) l V → i < length N.inner → get_or N.inner i l ≡ l → r < 48 → HasInnerRole N (code_of G C) V l r (role_by (any_writes (code_of G C) l.body r) (class_at c.inner i r))
     inner N V l i r of all lt e lr =
         let n = long N of in
         let s : i + 1 ≡ suc i = omega arith in
@@ -158,6 +171,32 @@ classes_are G ls C c root rows = record {
 
     beyond : (N : Nest) (i r : ℕ) → IsNestOf G ls N → length N.inner ≤ i → class_at c.inner i r ≡ None
     beyond N i r of l = let n = long N of in rows.beyond i r (omega arith)
+
+    here : Nest
+    here = nest_of G nest.root nest.inner
+
+    is_here : IsNestOf G ls here
+    is_here = record { root = nest.root; inner = nest.inner; are = nest.are; is = refl }
+
+    root_facts : (N : Nest) → IsNestOf G ls N → (V : ℕ → ℕ → Option Fact) × AreFacts N (code_of G C) N.root V
+    root_facts N of = facts_exist N (code_of G C) N.root (is_nest G ls N nest of) (inl refl)
+
+    root_small : AreSmall c.root
+    root_small r step lt e =
+        let facts = root_facts here is_here in
+        small_step here (code_of G C) facts.0 r (class_in c.root r) step e (root here facts.0 r is_here facts.1 lt)
+
+    inner_small : (i : ℕ) → AreSmall (get_or c.inner i [])
+    inner_small i r step lt e = by (cases_lt (i + 1) (length ls))
+      where
+        by : (i + 1 < length ls) ⊎ (length ls ≤ i + 1) → is_small step ≡ true
+        by (inr l) = let none = rows.beyond i r l in absurd (cc)
+        by (inl l) =
+            let m = get_or ls (i + 1) nest.root in
+            let at : get_or ls (i + 1) m ≡ m = get_or_default ls (i + 1) m nest.root l in
+            let among = subst (λ (xs : List Level). In xs m) (levels_of G ls here is_here) (listed_in ls (i + 1) m l at) in
+            let facts = facts_exist here (code_of G C) m (is_nest G ls here nest is_here) among in
+            small_inner here (code_of G C) facts.0 m r (class_at c.inner i r) step e ((rows.each i l).each here facts.0 m r is_here facts.1 at lt)
 
 pub rows_more_at : (G : Graph) (ls : List Level) (C : CellMap) (rows : List (List (Option Class))) (level : ℕ) (row : List (Option Class)) → 1 ≤ level → level < 4 → AreInnerRows G ls C level rows → IsInnerRow G ls C level row → AreInnerRows G ls C (level + 1) (set rows (level - 1) row)
 rows_more_at G ls C rows level row one lt a b =

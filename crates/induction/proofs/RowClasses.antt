@@ -14,7 +14,8 @@ use Rattle.loop_data.specs.declared.shape.Level.{Level}
 use Rattle.loop_data.specs.Nests.{Nest}
 use Rattle.loop_data.specs.Locations.{no_cells, word_writes, writes_cell, writes_register}
 use Rattle.loop_data.specs.LoopCode.{LoopCode, code_of, instr_among, writes, IsUnwritten, IsWritten}
-use Rattle.loop_data.specs.Classes.{FactsOf, IsInduction, IsCarried}
+use Rattle.loop_data.specs.Facts.{Fact}
+use Rattle.loop_data.specs.Classes.{IsInduction, IsCarried}
 use Rattle.loop_data.specs.Results.{IsLeastLocation}
 use Rattle.std.proofs.lemmas.Int.{to_z-of_z}
 use Rattle.linear_forms.proofs.Ranges.{fits_small}
@@ -36,8 +37,8 @@ tells_moves ls l w r lr by a z q G N V s e =
     let k = moves G ls N l V w r (record { is = s; below = lr }) by a z q in
     subst (λ y. IsInduction N (code_of G no_cells) V N.root r y) (sym (to_z-of_z w64 z (fits_small z k.small))) (subst (λ (x : Level). IsInduction N (code_of G no_cells) V x r z) e k)
 
-root_of : (G : Graph) (ls : List Level) (N : Nest) (l : Level) (V : FactsOf) (w : Words) → IsLoopOf G ls N l (V l) w → l ≡ N.root → IsLoopOf G ls N N.root (V N.root) w
-root_of G ls N l V w s e = subst (λ (x : Level). IsLoopOf G ls N x (V x) w) e s
+root_of : (G : Graph) (ls : List Level) (N : Nest) (l : Level) (V : ℕ → ℕ → Option Fact) (w : Words) → IsLoopOf G ls N l V w → l ≡ N.root → IsLoopOf G ls N N.root V w
+root_of G ls N l V w s e = subst (λ (x : Level). IsLoopOf G ls N x V w) e s
 
 pub tells_private : (ls : List Level) (l : Level) (w : Words) (r : ℕ) → r < 32 → (by : Writers) → AreWriters w.flow.instrs.items (length l.body) r by → by ≢ Nowhere → step_by ls l w r by ≡ None → IsPrivateAt w r → TellsClass ls l w r (Some Private)
 tells_private ls l w r lr by a some q k G N V s e = (
@@ -49,7 +50,7 @@ tells_private ls l w r lr by a some q k G N V s e = (
 pub is_carried : (ls : List Level) (l : Level) (w : Words) (r : ℕ) → r < 32 → (by : Writers) → AreWriters w.flow.instrs.items (length l.body) r by → by ≢ Nowhere → step_by ls l w r by ≡ None → IsNotPrivateAt w r → IsCarriedAt ls l w r (Reg r)
 is_carried ls l w r lr by a some q k = (refl, carried)
   where
-    carried : (G : Graph) (N : Nest) (V : FactsOf) → IsLoopOf G ls N l (V l) w → l ≡ N.root → IsCarried N (code_of G no_cells) V r
+    carried : (G : Graph) (N : Nest) (V : ℕ → ℕ → Option Fact) → IsLoopOf G ls N l V w → l ≡ N.root → IsCarried N (code_of G no_cells) V r
     carried G N V s e = record {
       written = subst (λ (x : Level). IsWritten (code_of G no_cells) x r) e (written G ls N l V w r (record { is = s; below = lr }) by a some);
       no_induction = λ z. subst (λ (x : Level). ¬ IsInduction N (code_of G no_cells) V x r z) e (stays G ls N l V w r (record { is = s; below = lr }) by a q z);
@@ -153,7 +154,7 @@ pub inner_all : (ls : List Level) (l : Level) (w : Words) (row : List (Option Cl
 inner_all ls l w row n m a = row_all (TellsInner ls l w) row n m a (λ q k. tells_nothing_inner ls l w q (inr k))
 
 -- a location with a class is not carried
-pub class_not_carried : (N : Nest) (B : LoopCode) (V : FactsOf) (r : ℕ) (c : Option Class) → HasClass N B V r c → ¬ IsCarried N B V r
+pub class_not_carried : (N : Nest) (B : LoopCode) (V : ℕ → ℕ → Option Fact) (r : ℕ) (c : Option Class) → HasClass N B V r c → ¬ IsCarried N B V r
 class_not_carried N B V r None h k = yes_no (writes B (k.written).word r) (k.written).does (h (k.written).word (k.written).inside)
 class_not_carried N B V r (Some (Induction z)) h k = k.no_induction z h
 class_not_carried N B V r (Some Private) h k = k.not_private h.2

@@ -6,20 +6,17 @@ use Rattle.loop_data.specs.declared.classes.Class.TheVariants.{Private}
 use Rattle.loop_data.specs.declared.classes.Classes.{Classes}
 use Rattle.loop_data.specs.declared.graph.Graph.{Graph}
 use Rattle.loop_data.specs.declared.shape.Level.{Level}
-use Rattle.loop_data.specs.Nests.{Nest, Among}
+use Rattle.loop_data.specs.Nests.{Nest}
 use Rattle.loop_data.specs.Locations.{CellMap}
-use Rattle.loop_data.specs.LoopCode.{LoopCode, code_of, any_writes, IsUnwritten}
+use Rattle.loop_data.specs.LoopCode.{code_of, any_writes, IsUnwritten}
+use Rattle.loop_data.specs.Facts.{Fact}
 use Rattle.loop_data.specs.FactPass.{AreFacts}
 use Rattle.loop_data.specs.Lookups.{role_by}
-use Rattle.loop_data.specs.Classes.{FactsOf, IsCarried, HasRole, HasInnerRole}
-use Rattle.loop_data.specs.Results.{IsNestOf, IsLeastLocation}
+use Rattle.loop_data.specs.Classes.{IsCarried, HasRole, HasInnerRole}
+use Rattle.loop_data.specs.Results.{IsNestOf, IsLeastLocation, AreSmallSteps}
 use Rattle.induction.specs.declared.refusal.ClassErr.{ClassErr}
 use Rattle.induction.specs.declared.refusal.ClassErr.TheVariants.{Carried, OutOfMemory}
 use Rattle.induction.specs.Rows.{HasClass, HasInnerClass, IsMoving}
-
--- the facts of each loop of the nest
-abbrev pub AreFactsOfAll : Nest → LoopCode → FactsOf → Type 0
-AreFactsOfAll N B V = (l : Level) → Among N l → AreFacts N B l (V l)
 
 -- the class of a location in a row, and in one of several rows
 abbrev pub class_in : List (Option Class) → ℕ → Option Class
@@ -28,18 +25,19 @@ class_in row r = slice_index_or row r None
 abbrev pub class_at : List (List (Option Class)) → ℕ → ℕ → Option Class
 class_at rows i r = class_in (slice_index_or rows i []) r
 
--- a row has the classes of the root
+-- a row has the classes of the root, whose pass has these facts
 abbrev pub IsRootRow : Graph → List Level → CellMap → List (Option Class) → Type 0
 IsRootRow G levels C row =
-    (N : Nest) (V : FactsOf) (r : ℕ) → IsNestOf G levels N → AreFactsOfAll N (code_of G C) V → r < 48
+    (N : Nest) (V : ℕ → ℕ → Option Fact) (r : ℕ) → IsNestOf G levels N → AreFacts N (code_of G C) N.root V → r < 48
     → HasClass N (code_of G C) V r (class_in row r)
 
--- a row has the inductions of the loop at a place among the levels
+-- a row has the inductions of the loop at a place among the levels, whose pass has these facts
 pub record IsInnerRow (G : Graph) (levels : List Level) (C : CellMap) (level : ℕ) (row : List (Option Class))
     : Type 0 where
   pub moving : (r : ℕ) → r < 48 → IsMoving (class_in row r)
-  pub each : (N : Nest) (V : FactsOf) (l : Level) (r : ℕ) → IsNestOf G levels N → AreFactsOfAll N (code_of G C) V
-      → slice_index_or levels level l ≡ l → r < 48 → HasInnerClass N (code_of G C) V l r (class_in row r)
+  pub each : (N : Nest) (V : ℕ → ℕ → Option Fact) (l : Level) (r : ℕ) → IsNestOf G levels N
+      → AreFacts N (code_of G C) l V → slice_index_or levels level l ≡ l → r < 48
+      → HasInnerClass N (code_of G C) V l r (class_in row r)
 
 -- the rows have those of the levels from 1 up to n, one after the other, and nothing behind
 pub record AreInnerRows (G : Graph) (levels : List Level) (C : CellMap) (n : ℕ) (rows : List (List (Option Class)))
@@ -48,22 +46,25 @@ pub record AreInnerRows (G : Graph) (levels : List Level) (C : CellMap) (n : ℕ
   pub each : (i : ℕ) → i + 1 < n → IsInnerRow G levels C (i + 1) (slice_index_or rows i [])
   pub beyond : (i r : ℕ) → n ≤ i + 1 → class_at rows i r ≡ None
 
--- each location has the role that its class tells
+-- each location has the role that its class tells: in the root by the facts of its pass, in an inner loop
+-- by those of its own
 pub record AreClasses (G : Graph) (levels : List Level) (C : CellMap) (c : Classes) : Type 0 where
-  pub root : (N : Nest) (V : FactsOf) (r : ℕ) → IsNestOf G levels N → AreFactsOfAll N (code_of G C) V → r < 48
+  pub root : (N : Nest) (V : ℕ → ℕ → Option Fact) (r : ℕ) → IsNestOf G levels N
+      → AreFacts N (code_of G C) N.root V → r < 48
       → HasRole N (code_of G C) V r (role_by (any_writes (code_of G C) N.root.body r) (class_in c.root r))
-  pub unwritten : (N : Nest) (V : FactsOf) (r : ℕ) → IsNestOf G levels N → AreFactsOfAll N (code_of G C) V → r < 48
-      → class_in c.root r ≡ None → IsUnwritten (code_of G C) N.root r
-  pub inner : (N : Nest) (V : FactsOf) (l : Level) (i r : ℕ) → IsNestOf G levels N → AreFactsOfAll N (code_of G C) V
-      → i < length N.inner → slice_index_or N.inner i l ≡ l → r < 48
+  pub unwritten : (N : Nest) (r : ℕ) → IsNestOf G levels N → r < 48 → class_in c.root r ≡ None
+      → IsUnwritten (code_of G C) N.root r
+  pub inner : (N : Nest) (V : ℕ → ℕ → Option Fact) (l : Level) (i r : ℕ) → IsNestOf G levels N
+      → AreFacts N (code_of G C) l V → i < length N.inner → slice_index_or N.inner i l ≡ l → r < 48
       → HasInnerRole N (code_of G C) V l r (role_by (any_writes (code_of G C) l.body r) (class_at c.inner i r))
   pub moving : (i r : ℕ) → r < 48 → class_at c.inner i r ≢ Some Private
   pub beyond : (N : Nest) (i r : ℕ) → IsNestOf G levels N → length N.inner ≤ i → class_at c.inner i r ≡ None
+  pub steps : AreSmallSteps c
 
--- the location is the least that is carried
+-- the location is the least that is carried, by the facts of the root's pass
 abbrev pub IsLeastCarried : Graph → List Level → CellMap → Loc → Type 0
-IsLeastCarried G levels C loc = (N : Nest) (V : FactsOf) → IsNestOf G levels N → AreFactsOfAll N (code_of G C) V
-    → IsLeastLocation (IsCarried N (code_of G C) V) (Some loc)
+IsLeastCarried G levels C loc = (N : Nest) (V : ℕ → ℕ → Option Fact) → IsNestOf G levels N
+    → AreFacts N (code_of G C) N.root V → IsLeastLocation (IsCarried N (code_of G C) V) (Some loc)
 
 abbrev pub IsRefusal : Graph → List Level → CellMap → ClassErr → Type 0
 IsRefusal G levels C (Carried loc) = IsLeastCarried G levels C loc

@@ -9,19 +9,20 @@ use Rattle.loop_data.specs.declared.shape.Level.{Level}
 use Rattle.loop_data.specs.Nests.{Nest}
 use Rattle.loop_data.specs.Locations.{no_cells}
 use Rattle.loop_data.specs.LoopCode.{LoopCode, code_of, IsUnwritten}
+use Rattle.loop_data.specs.Facts.{Fact}
 use Rattle.loop_data.specs.Lookups.{role_by}
-use Rattle.loop_data.specs.Classes.{FactsOf, IsInduction, IsCarried, HasRole}
+use Rattle.loop_data.specs.Classes.{IsInduction, IsCarried, HasRole}
 use Rattle.loop_data.specs.Results.{IsLeastLocation}
 use Rattle.induction.specs.declared.words.Words.{Words}
 use Rattle.induction.specs.Words.{IsLoopOf}
 
 -- what the class of a location says of the root
-abbrev pub HasClass : Nest → LoopCode → FactsOf → ℕ → Option Class → Type 0
+abbrev pub HasClass : Nest → LoopCode → (ℕ → ℕ → Option Fact) → ℕ → Option Class → Type 0
 HasClass N B V r None = IsUnwritten B N.root r
 HasClass N B V r (Some c) = HasRole N B V r (role_by true (Some c))
 
 -- what it says of an inner loop
-abbrev pub HasInnerClass : Nest → LoopCode → FactsOf → Level → ℕ → Option Class → Type 0
+abbrev pub HasInnerClass : Nest → LoopCode → (ℕ → ℕ → Option Fact) → Level → ℕ → Option Class → Type 0
 HasInnerClass N B V l r None = (step : ℤ) → ¬ IsInduction N B V l r step
 HasInnerClass N B V l r (Some (Induction step)) = IsInduction N B V l r step
 HasInnerClass N B V l r (Some Private) = ⊥
@@ -35,13 +36,13 @@ IsMoving (Some Private) = ⊥
 -- the class is that of the register, where the loop is the root of a nest
 abbrev pub TellsClass : List Level → Level → Words → ℕ → Option Class → Type 0
 TellsClass levels l w r c =
-    (G : Graph) (N : Nest) (V : FactsOf) → IsLoopOf G levels N l (V l) w → l ≡ N.root
+    (G : Graph) (N : Nest) (V : ℕ → ℕ → Option Fact) → IsLoopOf G levels N l V w → l ≡ N.root
     → HasClass N (code_of G no_cells) V r c
 
 -- the register is carried there
 abbrev pub IsCarriedAt : List Level → Level → Words → ℕ → Loc → Type 0
 IsCarriedAt levels l w r loc = (loc ≡ Reg r)
-    × ((G : Graph) (N : Nest) (V : FactsOf) → IsLoopOf G levels N l (V l) w → l ≡ N.root
+    × ((G : Graph) (N : Nest) (V : ℕ → ℕ → Option Fact) → IsLoopOf G levels N l V w → l ≡ N.root
     → IsCarried N (code_of G no_cells) V r)
 
 abbrev pub TellsRow : List Level → Level → Words → List (Option Class) → ℕ → Type 0
@@ -50,12 +51,12 @@ TellsRow levels l w row n = (r : ℕ) → r < n → TellsClass levels l w r (sli
 -- it is the least location that is carried there
 abbrev pub IsLeastAt : List Level → Level → Words → Loc → Type 0
 IsLeastAt levels l w loc =
-    (G : Graph) (N : Nest) (V : FactsOf) → IsLoopOf G levels N l (V l) w → l ≡ N.root
+    (G : Graph) (N : Nest) (V : ℕ → ℕ → Option Fact) → IsLoopOf G levels N l V w → l ≡ N.root
     → IsLeastLocation (IsCarried N (code_of G no_cells) V) (Some loc)
 
 abbrev pub TellsInner : List Level → Level → Words → ℕ → Option Class → Type 0
 TellsInner levels l w r c = IsMoving c
-    × ((G : Graph) (N : Nest) (V : FactsOf) → IsLoopOf G levels N l (V l) w
+    × ((G : Graph) (N : Nest) (V : ℕ → ℕ → Option Fact) → IsLoopOf G levels N l V w
     → HasInnerClass N (code_of G no_cells) V l r c)
 
 abbrev pub TellsInnerRow : List Level → Level → Words → List (Option Class) → ℕ → Type 0

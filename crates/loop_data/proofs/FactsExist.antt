@@ -108,7 +108,7 @@ agree_all test val o (x ∷ xs) all = go (test x) refl (agree_all test val o xs 
         → (if b then same_fact (val x) o && agree test val o xs else agree test val o xs) ≡ true
     go true f rest =
         true_and (same_fact (val x) o) (agree test val o xs)
-            (subst (λ y. same_fact y o ≡ true) (sym (all x (has_here x xs) f)) (fact_self o)) rest
+        (subst (λ y. same_fact y o ≡ true) (sym (all x (has_here x xs) f)) (fact_self o)) rest
     go false f rest = rest
 
 first_some : (test : ℕ → Bool) (val : ℕ → Option Fact) (o : Option Fact) (us : List ℕ)
@@ -196,7 +196,7 @@ module _ (N : Nest) (B : LoopCode) (l : Level) (nest : IsNest N) (among : Among 
   passes : (u v : ℕ) → IsForwardIn N l.body u v → is_forward N l v u ≡ true
   passes u v f =
       true_and _ _ f.edge.from (true_and _ _ f.edge.to (true_and _ _ f.edge.leads
-          (ap (λ b. if b then false else true) (none_closes (levels N) u v f.closes))))
+      (ap (λ b. if b then false else true) (none_closes (levels N) u v f.closes))))
 
   abbrev rank : ℕ → ℕ
   rank = nest.shapes.ranked.rank
@@ -210,8 +210,8 @@ module _ (N : Nest) (B : LoopCode) (l : Level) (nest : IsNest N) (among : Among 
   stable (suc n) zero v low high = absurd (omega arith)
   stable (suc n) (suc m) v low high = fun_ext (λ r.
       ap (λ (o : Option Fact). if v == l.header then header_fact B r else if lost_by B (levels N) v r then None else o)
-          (meet_same (is_forward N l v) (λ u. fact_after B u (facts_by N B l n u) r) (λ u. fact_after B u (facts_by N B l m u) r) l.body
-              (λ u h t. ap (λ S. fact_after B u S r) (stable n m u (let k = rises u v (forward u v t) in omega arith) (let k = rises u v (forward u v t) in omega arith)))))
+      (meet_same (is_forward N l v) (λ u. fact_after B u (facts_by N B l n u) r) (λ u. fact_after B u (facts_by N B l m u) r) l.body
+      (λ u h t. ap (λ S. fact_after B u S r) (stable n m u (let k = rises u v (forward u v t) in omega arith) (let k = rises u v (forward u v t) in omega arith)))))
 
   abbrev found : ℕ → ℕ → Option Fact
   found v = facts_by N B l (suc (rank v)) v
@@ -291,7 +291,7 @@ module _ (N : Nest) (B : LoopCode) (l : Level) (nest : IsNest N) (among : Among 
       forth : found v r ≡ Some x → (u : ℕ) → IsForwardIn N l.body u v → fact_after B u (found u) r ≡ Some x
       forth e u f =
           subst (λ S. fact_after B u S r ≡ Some x) (same u f)
-              (law.0 (sym (met_at v r ne not_lost) ∙ e) u f.edge.from (passes u v f))
+          (law.0 (sym (met_at v r ne not_lost) ∙ e) u f.edge.from (passes u v f))
 
       back : ((u : ℕ) → IsForwardIn N l.body u v → fact_after B u (found u) r ≡ Some x) → found v r ≡ Some x
       back all = met_at v r ne not_lost

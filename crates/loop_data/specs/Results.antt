@@ -32,7 +32,7 @@ pub record IsNestOf (G : Graph) (levels : List Level) (N : Nest) : Type 0 where
 
 -- the steps of inductions are small enough for a form
 abbrev pub AreSmall : List (Option Class) → Type 0
-AreSmall row = (r : ℕ) (step : ℤ) → slice_index_or row r None ≡ Some (Induction step) → is_small step ≡ true
+AreSmall row = (r : ℕ) (step : ℤ) → r < 48 → slice_index_or row r None ≡ Some (Induction step) → is_small step ≡ true
 
 pub record AreSmallSteps (c : Classes) : Type 0 where
   pub root : AreSmall c.root
