@@ -20,7 +20,6 @@ use Rattle.loop_data.specs.Lookups.{cell_map, role_by}
 use Rattle.loop_data.specs.Classes.{IsInduction, HasRole, HasInnerRole}
 use Rattle.loop_data.specs.Facts.{Fact}
 use Rattle.loop_data.specs.FactPass.{AreFacts}
-use Rattle.loop_data.specs.Results.{IsNestOf, AreSmall}
 use Rattle.loop_data.proofs.Tests.{true_or_false, yes_no}
 use Rattle.loop_data.proofs.FactUnique.{some_writes_it, none_writes_it}
 use Rattle.loop_data.proofs.FlowEdges.{listed_in, levels_ordered}
@@ -28,7 +27,8 @@ use Rattle.loop_data.proofs.FactsExist.{facts_exist}
 use Rattle.induction.specs.declared.words.Words.{Words}
 use Rattle.induction.specs.Words.{AreWords, IsLoopOf}
 use Rattle.induction.specs.Rows.{HasClass, HasInnerClass, IsMoving, TellsRow, TellsInnerRow, IsLeastAt}
-use Rattle.induction.specs.Results.{class_in, class_at, IsRootRow, IsInnerRow, AreInnerRows, AreClasses, IsLeastCarried}
+use Rattle.induction.specs.Results.{IsRootRow, IsInnerRow, AreInnerRows, IsLeastCarried}
+use Rattle.loop_data.specs.Results.{IsNestOf, AreSmall, class_in, class_at, AreClasses}
 use Rattle.induction.proofs.PlaceMarks.{levels_of, is_nest}
 use Rattle.induction.proofs.WordLists.{cells_none, rises_at}
 
@@ -47,26 +47,26 @@ loop_of G ls i l w at N V of facts =
 root_is : (G : Graph) (ls : List Level) (l : Level) (N : Nest) → l ≡ get_or ls 0 l → IsNestOf G ls N → l ≡ N.root
 root_is G ls l N e of = e ∙ ap (λ (xs : List Level). get_or xs 0 l) (levels_of G ls N of)
 
-pub root_row_is : (G : Graph) (ls : List Level) (l : Level) (w : Words) (row : List (Option Class)) (c : Cells) → c.list.items ≡ [] → c.uses.items ≡ [] → IsAt G ls 0 l w → TellsRow ls l w row 48 → IsRootRow G ls (cell_map c) row
+pub root_row_is : (G : Graph) (ls : List Level) (l : Level) (w : Words) (row : List (Option Class)) (c : Cells) → c.list.items ≡ [] → c.uses.items ≡ [] → IsAt G ls 0 l w → TellsRow ls l w row → IsRootRow G ls (cell_map c) row
 root_row_is G ls l w row c none unused at tells =
     subst (λ (C : CellMap). IsRootRow G ls C row) (sym (cells_none c none unused))
-    (λ N V r of all lt. let root = root_is G ls l N at.here of in
-        tells r lt G N V (loop_of G ls 0 l w at N V of (subst (λ (x : Level). AreFacts N (code_of G no_cells) x V) (sym root) all)) root)
+    (λ N V r of all. let root = root_is G ls l N at.here of in
+    tells r G N V (loop_of G ls 0 l w at N V of (subst (λ (x : Level). AreFacts N (code_of G no_cells) x V) (sym root) all)) root)
 
 pub least_is : (G : Graph) (ls : List Level) (l : Level) (w : Words) (loc : Loc) (c : Cells) → c.list.items ≡ [] → c.uses.items ≡ [] → IsAt G ls 0 l w → IsLeastAt ls l w loc → IsLeastCarried G ls (cell_map c) loc
 least_is G ls l w loc c none unused at least =
     subst (λ (C : CellMap). IsLeastCarried G ls C loc) (sym (cells_none c none unused))
     (λ N V of all. let root = root_is G ls l N at.here of in
-        least G N V (loop_of G ls 0 l w at N V of (subst (λ (x : Level). AreFacts N (code_of G no_cells) x V) (sym root) all)) root)
+    least G N V (loop_of G ls 0 l w at N V of (subst (λ (x : Level). AreFacts N (code_of G no_cells) x V) (sym root) all)) root)
 
-pub inner_row_is : (G : Graph) (ls : List Level) (i : ℕ) (l : Level) (w : Words) (row : List (Option Class)) (c : Cells) → c.list.items ≡ [] → c.uses.items ≡ [] → IsAt G ls i l w → TellsInnerRow ls l w row 48 → IsInnerRow G ls (cell_map c) i row
+pub inner_row_is : (G : Graph) (ls : List Level) (i : ℕ) (l : Level) (w : Words) (row : List (Option Class)) (c : Cells) → c.list.items ≡ [] → c.uses.items ≡ [] → IsAt G ls i l w → TellsInnerRow ls l w row → IsInnerRow G ls (cell_map c) i row
 inner_row_is G ls i l w row c none unused at tells =
-    subst (λ (C : CellMap). IsInnerRow G ls C i row) (sym (cells_none c none unused)) (record { moving = λ r lt. (tells r lt).0; each = each })
+    subst (λ (C : CellMap). IsInnerRow G ls C i row) (sym (cells_none c none unused)) (record { moving = λ r. (tells r).0; each = each })
   where
-    each : (N : Nest) (V : ℕ → ℕ → Option Fact) (m : Level) (r : ℕ) → IsNestOf G ls N → AreFacts N (code_of G no_cells) m V → get_or ls i m ≡ m → r < 48 → HasInnerClass N (code_of G no_cells) V m r (class_in row r)
-    each N V m r of all e lt =
+    each : (N : Nest) (V : ℕ → ℕ → Option Fact) (m : Level) (r : ℕ) → IsNestOf G ls N → AreFacts N (code_of G no_cells) m V → get_or ls i m ≡ m → HasInnerClass N (code_of G no_cells) V m r (class_in row r)
+    each N V m r of all e =
         let q = at.here ∙ get_or_default ls i l m at.within ∙ e in
-        subst (λ (x : Level). HasInnerClass N (code_of G no_cells) V x r (class_in row r)) q ((tells r lt).1 G N V (loop_of G ls i l w at N V of (subst (λ (x : Level). AreFacts N (code_of G no_cells) x V) (sym q) all)))
+        subst (λ (x : Level). HasInnerClass N (code_of G no_cells) V x r (class_in row r)) q ((tells r).1 G N V (loop_of G ls i l w at N V of (subst (λ (x : Level). AreFacts N (code_of G no_cells) x V) (sym q) all)))
 
 -- no rows yet, and one row more
 no_class : (n r : ℕ) → class_in (replicate n None) r ≡ None
@@ -144,8 +144,8 @@ small_inner N B V l r c step e h = let k : IsInduction N B V l r step = subst (H
 
 pub classes_are : (G : Graph) (ls : List Level) (C : CellMap) (c : Classes) → AreNest G ls → IsRootRow G ls C c.root → AreInnerRows G ls C (length ls) c.inner → AreClasses G ls C c
 classes_are G ls C c nest root rows = record {
-  root = λ N V r of all lt. role_is N (code_of G C) V r (class_in c.root r) (any_writes (code_of G C) N.root.body r) refl (root N V r of all lt);
-  unwritten = λ N r of lt e. let facts = root_facts N of in is_kept N (code_of G C) facts.0 r (class_in c.root r) e (root N facts.0 r of facts.1 lt);
+  root = λ N V r of all. role_is N (code_of G C) V r (class_in c.root r) (any_writes (code_of G C) N.root.body r) refl (root N V r of all);
+  unwritten = λ N r of e. let facts = root_facts N of in is_kept N (code_of G C) facts.0 r (class_in c.root r) e (root N facts.0 r of facts.1);
   inner = inner;
   moving = moving;
   beyond = beyond;
@@ -155,18 +155,18 @@ classes_are G ls C c nest root rows = record {
     long : (N : Nest) → IsNestOf G ls N → length ls ≡ suc (length N.inner)
     long N of = ap (λ (xs : List Level). length xs) (levels_of G ls N of)
 
-    inner : (N : Nest) (V : ℕ → ℕ → Option Fact) (l : Level) (i r : ℕ) → IsNestOf G ls N → AreFacts N (code_of G C) l V → i < length N.inner → get_or N.inner i l ≡ l → r < 48 → HasInnerRole N (code_of G C) V l r (role_by (any_writes (code_of G C) l.body r) (class_at c.inner i r))
-    inner N V l i r of all lt e lr =
+    inner : (N : Nest) (V : ℕ → ℕ → Option Fact) (l : Level) (i r : ℕ) → IsNestOf G ls N → AreFacts N (code_of G C) l V → i < length N.inner → get_or N.inner i l ≡ l → HasInnerRole N (code_of G C) V l r (role_by (any_writes (code_of G C) l.body r) (class_at c.inner i r))
+    inner N V l i r of all lt e =
         let n = long N of in
         let s : i + 1 ≡ suc i = omega arith in
         let here : get_or ls (i + 1) l ≡ l = ap (λ k. get_or ls k l) s ∙ ap (λ (xs : List Level). get_or xs (suc i) l) (levels_of G ls N of) ∙ e in
-        inner_role_is N (code_of G C) V l r (class_at c.inner i r) (any_writes (code_of G C) l.body r) refl ((rows.each i (omega arith)).each N V l r of all here lr)
+        inner_role_is N (code_of G C) V l r (class_at c.inner i r) (any_writes (code_of G C) l.body r) refl ((rows.each i (omega arith)).each N V l r of all here)
 
-    moving : (i r : ℕ) → r < 48 → class_at c.inner i r ≢ Some Private
-    moving i r lr = by (cases_lt (i + 1) (length ls))
+    moving : (i r : ℕ) → class_at c.inner i r ≢ Some Private
+    moving i r = by (cases_lt (i + 1) (length ls))
       where
         by : (i + 1 < length ls) ⊎ (length ls ≤ i + 1) → class_at c.inner i r ≢ Some Private
-        by (inl l) = not_private (class_at c.inner i r) ((rows.each i l).moving r lr)
+        by (inl l) = not_private (class_at c.inner i r) ((rows.each i l).moving r)
         by (inr l) = none_private (class_at c.inner i r) (rows.beyond i r l)
 
     beyond : (N : Nest) (i r : ℕ) → IsNestOf G ls N → length N.inner ≤ i → class_at c.inner i r ≡ None
@@ -182,12 +182,12 @@ classes_are G ls C c nest root rows = record {
     root_facts N of = facts_exist N (code_of G C) N.root (is_nest G ls N nest of) (inl refl)
 
     root_small : AreSmall c.root
-    root_small r step lt e =
+    root_small r step e =
         let facts = root_facts here is_here in
-        small_step here (code_of G C) facts.0 r (class_in c.root r) step e (root here facts.0 r is_here facts.1 lt)
+        small_step here (code_of G C) facts.0 r (class_in c.root r) step e (root here facts.0 r is_here facts.1)
 
     inner_small : (i : ℕ) → AreSmall (get_or c.inner i [])
-    inner_small i r step lt e = by (cases_lt (i + 1) (length ls))
+    inner_small i r step e = by (cases_lt (i + 1) (length ls))
       where
         by : (i + 1 < length ls) ⊎ (length ls ≤ i + 1) → is_small step ≡ true
         by (inr l) = let none = rows.beyond i r l in absurd (cc)
@@ -196,7 +196,7 @@ classes_are G ls C c nest root rows = record {
             let at : get_or ls (i + 1) m ≡ m = get_or_default ls (i + 1) m nest.root l in
             let among = subst (λ (xs : List Level). In xs m) (levels_of G ls here is_here) (listed_in ls (i + 1) m l at) in
             let facts = facts_exist here (code_of G C) m (is_nest G ls here nest is_here) among in
-            small_inner here (code_of G C) facts.0 m r (class_at c.inner i r) step e ((rows.each i l).each here facts.0 m r is_here facts.1 at lt)
+            small_inner here (code_of G C) facts.0 m r (class_at c.inner i r) step e ((rows.each i l).each here facts.0 m r is_here facts.1 at)
 
 pub rows_more_at : (G : Graph) (ls : List Level) (C : CellMap) (rows : List (List (Option Class))) (level : ℕ) (row : List (Option Class)) → 1 ≤ level → level < 4 → AreInnerRows G ls C level rows → IsInnerRow G ls C level row → AreInnerRows G ls C (level + 1) (set rows (level - 1) row)
 rows_more_at G ls C rows level row one lt a b =

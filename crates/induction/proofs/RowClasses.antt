@@ -133,8 +133,8 @@ row_more P row n x l a p = record { count = length-set row n x ∙ a.count; late
         by (inl e) = let c = a.count in subst (λ k. P k (get_or (set row n x) k None)) (sym e) (subst (P n) (sym (get_or-set_same row n x None (omega arith))) p)
         by (inr ne) = subst (P q) (sym (get_or-set_other row n q x None ne)) (a.each q (omega arith))
 
-row_all : (P : ℕ → Option Class → Type 0) (row : List (Option Class)) (n : ℕ) → 32 ≤ n → IsRowTo P row n → ((q : ℕ) → 32 ≤ q → P q None) → (q : ℕ) → q < 48 → P q (get_or row q None)
-row_all P row n l a none q m = by (cases_lt q n)
+row_all : (P : ℕ → Option Class → Type 0) (row : List (Option Class)) (n : ℕ) → 32 ≤ n → IsRowTo P row n → ((q : ℕ) → 32 ≤ q → P q None) → (q : ℕ) → P q (get_or row q None)
+row_all P row n l a none q = by (cases_lt q n)
   where
     by : (q < n) ⊎ (n ≤ q) → P q (get_or row q None)
     by (inl k) = a.each q k
@@ -144,13 +144,13 @@ row_all P row n l a none q m = by (cases_lt q n)
 pub root_first : (ls : List Level) (l : Level) (w : Words) (row : List (Option Class)) → row ≡ replicate 48 None → IsRowTo (TellsClass ls l w) row 1
 root_first ls l w row e = row_first (TellsClass ls l w) (tells_nothing ls l w 0 (inl refl)) row e
 
-pub root_all : (ls : List Level) (l : Level) (w : Words) (row : List (Option Class)) (n : ℕ) → 32 ≤ n → IsRowTo (TellsClass ls l w) row n → TellsRow ls l w row 48
+pub root_all : (ls : List Level) (l : Level) (w : Words) (row : List (Option Class)) (n : ℕ) → 32 ≤ n → IsRowTo (TellsClass ls l w) row n → TellsRow ls l w row
 root_all ls l w row n m a = row_all (TellsClass ls l w) row n m a (λ q k. tells_nothing ls l w q (inr k))
 
 pub inner_first : (ls : List Level) (l : Level) (w : Words) (row : List (Option Class)) → row ≡ replicate 48 None → IsRowTo (TellsInner ls l w) row 1
 inner_first ls l w row e = row_first (TellsInner ls l w) (tells_nothing_inner ls l w 0 (inl refl)) row e
 
-pub inner_all : (ls : List Level) (l : Level) (w : Words) (row : List (Option Class)) (n : ℕ) → 32 ≤ n → IsRowTo (TellsInner ls l w) row n → TellsInnerRow ls l w row 48
+pub inner_all : (ls : List Level) (l : Level) (w : Words) (row : List (Option Class)) (n : ℕ) → 32 ≤ n → IsRowTo (TellsInner ls l w) row n → TellsInnerRow ls l w row
 inner_all ls l w row n m a = row_all (TellsInner ls l w) row n m a (λ q k. tells_nothing_inner ls l w q (inr k))
 
 -- a location with a class is not carried

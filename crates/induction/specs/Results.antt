@@ -1,42 +1,32 @@
 -- What the classes of a loop say.
-use Rattle.std.specs.Prelude.{ℕ, ◌≡◌, ◌≢◌, ◌<◌, ◌≤◌, ◌+◌, List, [], length, Option, Some, None, slice_index_or}
+use Rattle.std.specs.Prelude.{ℕ, ◌≡◌, ◌<◌, ◌≤◌, ◌+◌, List, [], length, Option, Some, None, slice_index_or}
 use Rattle.linear_forms.specs.declared.location.Loc.{Loc}
 use Rattle.loop_data.specs.declared.classes.Class.{Class}
-use Rattle.loop_data.specs.declared.classes.Class.TheVariants.{Private}
-use Rattle.loop_data.specs.declared.classes.Classes.{Classes}
 use Rattle.loop_data.specs.declared.graph.Graph.{Graph}
 use Rattle.loop_data.specs.declared.shape.Level.{Level}
 use Rattle.loop_data.specs.Nests.{Nest}
 use Rattle.loop_data.specs.Locations.{CellMap}
-use Rattle.loop_data.specs.LoopCode.{code_of, any_writes, IsUnwritten}
+use Rattle.loop_data.specs.LoopCode.{code_of}
 use Rattle.loop_data.specs.Facts.{Fact}
 use Rattle.loop_data.specs.FactPass.{AreFacts}
-use Rattle.loop_data.specs.Lookups.{role_by}
-use Rattle.loop_data.specs.Classes.{IsCarried, HasRole, HasInnerRole}
-use Rattle.loop_data.specs.Results.{IsNestOf, IsLeastLocation, AreSmallSteps}
+use Rattle.loop_data.specs.Classes.{IsCarried}
+use Rattle.loop_data.specs.Results.{IsNestOf, IsLeastLocation, class_in, class_at}
 use Rattle.induction.specs.declared.refusal.ClassErr.{ClassErr}
 use Rattle.induction.specs.declared.refusal.ClassErr.TheVariants.{Carried, OutOfMemory}
 use Rattle.induction.specs.Rows.{HasClass, HasInnerClass, IsMoving}
 
--- the class of a location in a row, and in one of several rows
-abbrev pub class_in : List (Option Class) → ℕ → Option Class
-class_in row r = slice_index_or row r None
-
-abbrev pub class_at : List (List (Option Class)) → ℕ → ℕ → Option Class
-class_at rows i r = class_in (slice_index_or rows i []) r
-
 -- a row has the classes of the root, whose pass has these facts
 abbrev pub IsRootRow : Graph → List Level → CellMap → List (Option Class) → Type 0
 IsRootRow G levels C row =
-    (N : Nest) (V : ℕ → ℕ → Option Fact) (r : ℕ) → IsNestOf G levels N → AreFacts N (code_of G C) N.root V → r < 48
+    (N : Nest) (V : ℕ → ℕ → Option Fact) (r : ℕ) → IsNestOf G levels N → AreFacts N (code_of G C) N.root V
     → HasClass N (code_of G C) V r (class_in row r)
 
 -- a row has the inductions of the loop at a place among the levels, whose pass has these facts
 pub record IsInnerRow (G : Graph) (levels : List Level) (C : CellMap) (level : ℕ) (row : List (Option Class))
     : Type 0 where
-  pub moving : (r : ℕ) → r < 48 → IsMoving (class_in row r)
+  pub moving : (r : ℕ) → IsMoving (class_in row r)
   pub each : (N : Nest) (V : ℕ → ℕ → Option Fact) (l : Level) (r : ℕ) → IsNestOf G levels N
-      → AreFacts N (code_of G C) l V → slice_index_or levels level l ≡ l → r < 48
+      → AreFacts N (code_of G C) l V → slice_index_or levels level l ≡ l
       → HasInnerClass N (code_of G C) V l r (class_in row r)
 
 -- the rows have those of the levels from 1 up to n, one after the other, and nothing behind
@@ -45,21 +35,6 @@ pub record AreInnerRows (G : Graph) (levels : List Level) (C : CellMap) (n : ℕ
   pub count : length rows ≡ 3
   pub each : (i : ℕ) → i + 1 < n → IsInnerRow G levels C (i + 1) (slice_index_or rows i [])
   pub beyond : (i r : ℕ) → n ≤ i + 1 → class_at rows i r ≡ None
-
--- each location has the role that its class tells: in the root by the facts of its pass, in an inner loop
--- by those of its own
-pub record AreClasses (G : Graph) (levels : List Level) (C : CellMap) (c : Classes) : Type 0 where
-  pub root : (N : Nest) (V : ℕ → ℕ → Option Fact) (r : ℕ) → IsNestOf G levels N
-      → AreFacts N (code_of G C) N.root V → r < 48
-      → HasRole N (code_of G C) V r (role_by (any_writes (code_of G C) N.root.body r) (class_in c.root r))
-  pub unwritten : (N : Nest) (r : ℕ) → IsNestOf G levels N → r < 48 → class_in c.root r ≡ None
-      → IsUnwritten (code_of G C) N.root r
-  pub inner : (N : Nest) (V : ℕ → ℕ → Option Fact) (l : Level) (i r : ℕ) → IsNestOf G levels N
-      → AreFacts N (code_of G C) l V → i < length N.inner → slice_index_or N.inner i l ≡ l → r < 48
-      → HasInnerRole N (code_of G C) V l r (role_by (any_writes (code_of G C) l.body r) (class_at c.inner i r))
-  pub moving : (i r : ℕ) → r < 48 → class_at c.inner i r ≢ Some Private
-  pub beyond : (N : Nest) (i r : ℕ) → IsNestOf G levels N → length N.inner ≤ i → class_at c.inner i r ≡ None
-  pub steps : AreSmallSteps c
 
 -- the location is the least that is carried, by the facts of the root's pass
 abbrev pub IsLeastCarried : Graph → List Level → CellMap → Loc → Type 0

@@ -45,8 +45,8 @@ IsCarriedAt levels l w r loc = (loc ≡ Reg r)
     × ((G : Graph) (N : Nest) (V : ℕ → ℕ → Option Fact) → IsLoopOf G levels N l V w → l ≡ N.root
     → IsCarried N (code_of G no_cells) V r)
 
-abbrev pub TellsRow : List Level → Level → Words → List (Option Class) → ℕ → Type 0
-TellsRow levels l w row n = (r : ℕ) → r < n → TellsClass levels l w r (slice_index_or row r None)
+abbrev pub TellsRow : List Level → Level → Words → List (Option Class) → Type 0
+TellsRow levels l w row = (r : ℕ) → TellsClass levels l w r (slice_index_or row r None)
 
 -- it is the least location that is carried there
 abbrev pub IsLeastAt : List Level → Level → Words → Loc → Type 0
@@ -59,5 +59,5 @@ TellsInner levels l w r c = IsMoving c
     × ((G : Graph) (N : Nest) (V : ℕ → ℕ → Option Fact) → IsLoopOf G levels N l V w
     → HasInnerClass N (code_of G no_cells) V l r c)
 
-abbrev pub TellsInnerRow : List Level → Level → Words → List (Option Class) → ℕ → Type 0
-TellsInnerRow levels l w row n = (r : ℕ) → r < n → TellsInner levels l w r (slice_index_or row r None)
+abbrev pub TellsInnerRow : List Level → Level → Words → List (Option Class) → Type 0
+TellsInnerRow levels l w row = (r : ℕ) → TellsInner levels l w r (slice_index_or row r None)

@@ -2,7 +2,8 @@ ghost use Rattle.std.specs.Prelude.{◌≡◌, ◌<◌, ◌≤◌, [], length, I
 ghost use Rattle.loop_data.specs.LoopWords.{AreNest};
 ghost use Rattle.loop_data.specs.Lookups.{cell_map};
 ghost use Rattle.loop_data.specs.Paths.{IsInOrder};
-ghost use Rattle.induction.specs.Results.{IsRootRow, IsInnerRow, AreInnerRows, AreClasses, IsRefusal};
+ghost use Rattle.induction.specs.Results.{IsRootRow, IsInnerRow, AreInnerRows, IsRefusal};
+ghost use Rattle.loop_data.specs.Results.{AreClasses};
 
 use crate::refusal::ClassErr;
 use crate::rows::{inner_row, root_row};

@@ -68,7 +68,7 @@ pub fn root_row(levels: &[Level], level: &Level, words: &Words) -> Result<[Optio
     requires levels { All (λ l. IsStrictlyIncreasing l.body) levels.now }
     requires level { IsStrictlyIncreasing level.now.body }
     requires sized { AreSized level.now.body words.now }
-    ensures ok { IfOk result (λ row. TellsRow levels.now level.now words.now row 48) }
+    ensures ok { IfOk result (TellsRow levels.now level.now words.now) }
     ensures err { IfErr result (IsLeastAt levels.now level.now words.now) }
 {
     let mut row = [None; 48];
@@ -102,7 +102,7 @@ pub fn inner_row(levels: &[Level], level: &Level, words: &Words) -> [Option<Clas
     requires levels { All (λ l. IsStrictlyIncreasing l.body) levels.now }
     requires level { IsStrictlyIncreasing level.now.body }
     requires sized { AreSized level.now.body words.now }
-    ensures { TellsInnerRow levels.now level.now words.now result 48 }
+    ensures { TellsInnerRow levels.now level.now words.now result }
 {
     let mut row = [None; 48];
     for r in 1..32 {

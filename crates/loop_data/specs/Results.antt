@@ -9,7 +9,7 @@ use Rattle.loop_data.specs.declared.equations.Duty.{Duty}
 use Rattle.loop_data.specs.declared.equations.Equations.{Equations}
 use Rattle.loop_data.specs.declared.equations.Point.{Point}
 use Rattle.loop_data.specs.declared.classes.Class.{Class}
-use Rattle.loop_data.specs.declared.classes.Class.TheVariants.{Induction}
+use Rattle.loop_data.specs.declared.classes.Class.TheVariants.{Induction, Private}
 use Rattle.loop_data.specs.declared.classes.Classes.{Classes}
 use Rattle.loop_data.specs.declared.graph.Graph.{Graph}
 use Rattle.loop_data.specs.declared.shape.Level.{Level}
@@ -17,11 +17,13 @@ use Rattle.loop_data.specs.declared.values.Values.{Values}
 use Rattle.loop_data.specs.Nests.{Nest, nest_of, Among, Holds}
 use Rattle.loop_data.specs.Independent.{Role, Moves}
 use Rattle.loop_data.specs.Locations.{CellMap}
-use Rattle.loop_data.specs.LoopCode.{LoopCode, code_of, writes}
+use Rattle.loop_data.specs.LoopCode.{LoopCode, code_of, writes, any_writes, IsUnwritten}
+use Rattle.loop_data.specs.Classes.{HasRole, HasInnerRole}
+use Rattle.loop_data.specs.Facts.{Fact}
 use Rattle.loop_data.specs.FactPass.{AreFacts}
 use Rattle.loop_data.specs.FormRows.{form_after, duty}
 use Rattle.loop_data.specs.Equations.{plus_constant, AreForms}
-use Rattle.loop_data.specs.Lookups.{fact_at, form_at, roles_by}
+use Rattle.loop_data.specs.Lookups.{fact_at, form_at, role_by, roles_by}
 
 -- a loop and its inner loops, the root first
 pub record IsNestOf (G : Graph) (levels : List Level) (N : Nest) : Type 0 where
@@ -32,7 +34,7 @@ pub record IsNestOf (G : Graph) (levels : List Level) (N : Nest) : Type 0 where
 
 -- the steps of inductions are small enough for a form
 abbrev pub AreSmall : List (Option Class) → Type 0
-AreSmall row = (r : ℕ) (step : ℤ) → r < 48 → slice_index_or row r None ≡ Some (Induction step) → is_small step ≡ true
+AreSmall row = (r : ℕ) (step : ℤ) → slice_index_or row r None ≡ Some (Induction step) → is_small step ≡ true
 
 pub record AreSmallSteps (c : Classes) : Type 0 where
   pub root : AreSmall c.root
@@ -44,6 +46,28 @@ pub record AreFactsOf (G : Graph) (levels : List Level) (C : CellMap) (level : �
   pub words : (l : Level) → slice_index_or levels level l ≡ l → map (λ (v : Values). v.at) values ≡ l.body
   pub facts : (N : Nest) (l : Level) → IsNestOf G levels N → slice_index_or levels level l ≡ l
       → AreFacts N (code_of G C) l (fact_at values)
+
+-- the class of a location in a row, and in one of several rows
+abbrev pub class_in : List (Option Class) → ℕ → Option Class
+class_in row r = slice_index_or row r None
+
+abbrev pub class_at : List (List (Option Class)) → ℕ → ℕ → Option Class
+class_at rows i r = class_in (slice_index_or rows i []) r
+
+-- each location has the role that its class tells: in the root by the facts of its pass, in an inner loop
+-- by those of its own
+pub record AreClasses (G : Graph) (levels : List Level) (C : CellMap) (c : Classes) : Type 0 where
+  pub root : (N : Nest) (V : ℕ → ℕ → Option Fact) (r : ℕ) → IsNestOf G levels N
+      → AreFacts N (code_of G C) N.root V
+      → HasRole N (code_of G C) V r (role_by (any_writes (code_of G C) N.root.body r) (class_in c.root r))
+  pub unwritten : (N : Nest) (r : ℕ) → IsNestOf G levels N → class_in c.root r ≡ None
+      → IsUnwritten (code_of G C) N.root r
+  pub inner : (N : Nest) (V : ℕ → ℕ → Option Fact) (l : Level) (i r : ℕ) → IsNestOf G levels N
+      → AreFacts N (code_of G C) l V → i < length N.inner → slice_index_or N.inner i l ≡ l
+      → HasInnerRole N (code_of G C) V l r (role_by (any_writes (code_of G C) l.body r) (class_at c.inner i r))
+  pub moving : (i r : ℕ) → class_at c.inner i r ≢ Some Private
+  pub beyond : (N : Nest) (i r : ℕ) → IsNestOf G levels N → length N.inner ≤ i → class_at c.inner i r ≡ None
+  pub steps : AreSmallSteps c
 
 -- an induction of some loop is written with another form than its header's and the step
 pub record IsUnconfirmed (N : Nest) (B : LoopCode) (roles : Level → ℕ → Role) (at : ℕ → ℕ → Option LinearForm)

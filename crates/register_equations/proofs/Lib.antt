@@ -13,3 +13,4 @@ pub mod Unique
 pub mod Innermost
 pub mod DutyLists
 pub mod Equated
+pub mod Joined

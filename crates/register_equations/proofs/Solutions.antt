@@ -7,7 +7,8 @@ use Rattle.loop_data.specs.Nests.{Nest, has, In, Among, Edge, IsPass, IsNest}
 use Rattle.loop_data.specs.Independent.{Role, Keeps, Moves, Private}
 use Rattle.loop_data.specs.LoopCode.{LoopCode, writes, any_writes, is_location, IsUnwritten}
 use Rattle.loop_data.specs.FormRows.{form_after}
-use Rattle.loop_data.specs.Classes.{FactsOf, IsInduction, HasRole, HasInnerRole}
+use Rattle.loop_data.specs.Facts.{Fact}
+use Rattle.loop_data.specs.Classes.{IsInduction, HasRole, HasInnerRole}
 use Rattle.loop_data.specs.Equations.{entry_form, plus_constant, with_step, header_form, Carries, AreForms, IsConfirmed}
 use Rattle.loop_data.proofs.Tests.{eq_of, yes_no}
 use Rattle.loop_data.proofs.NestVisits.{entering_edge}
@@ -130,18 +131,18 @@ writes_on B (y ∷ ys) u r h w = go (y == u) refl h (λ k. writes_on B ys u r k 
         by false k = k
 
 -- the classes of the locations give such roles
-pub roles_solve : (N : Nest) (B : LoopCode) (V : FactsOf) (roles : Level → ℕ → Role) (at : ℕ → ℕ → Option LinearForm) → ((r : ℕ) → HasRole N B V r (roles N.root r)) → ((l : Level) → In N.inner l → (r : ℕ) → HasInnerRole N B V l r (roles l r))
+pub roles_solve : (N : Nest) (B : LoopCode) (roles : Level → ℕ → Role) (at : ℕ → ℕ → Option LinearForm) → ((r : ℕ) → (V : ℕ → ℕ → Option Fact) × HasRole N B V r (roles N.root r)) → ((l : Level) → In N.inner l → (r : ℕ) → (V : ℕ → ℕ → Option Fact) × HasInnerRole N B V l r (roles l r))
     → AreForms N B roles at → ((l : Level) → Among N l → (r : ℕ) → IsConfirmed N B roles at l r) → AreSolved N B roles at
-roles_solve N B V roles at outer inner forms confirmed = record { keeps = keeps; moves = moves; forms = forms; confirmed = confirmed }
+roles_solve N B roles at outer inner forms confirmed = record { keeps = keeps; moves = moves; forms = forms; confirmed = confirmed }
   where
     keeps : (l : Level) → Among N l → (r : ℕ) → roles l r ≡ Keeps → IsUnwritten B l r
-    keeps l (inl e) r q = subst (λ z. IsUnwritten B z r) e (subst (HasRole N B V r) (ap (λ z. roles z r) e ∙ q) (outer r))
-    keeps l (inr i) r q = subst (HasInnerRole N B V l r) q (inner l i r)
+    keeps l (inl e) r q = subst (λ z. IsUnwritten B z r) e (subst (HasRole N B (outer r).0 r) (ap (λ z. roles z r) e ∙ q) (outer r).1)
+    keeps l (inr i) r q = subst (HasInnerRole N B (inner l i r).0 l r) q (inner l i r).1
 
     moves : (l : Level) → Among N l → (r : ℕ) (step : ℤ) → roles l r ≡ Moves step → (us : List ℕ) → IsPass N l us → any_writes B us r ≡ true
     moves l (inl e) r step q us pass =
-        let k : IsInduction N B V N.root r step = subst (HasRole N B V r) (ap (λ z. roles z r) e ∙ q) (outer r) in
+        let k : IsInduction N B (outer r).0 N.root r step = subst (HasRole N B (outer r).0 r) (ap (λ z. roles z r) e ∙ q) (outer r).1 in
         writes_on B us k.word r (k.always us (subst (λ z. IsPass N z us) (sym e) pass)) k.does
     moves l (inr i) r step q us pass =
-        let k : IsInduction N B V l r step = subst (HasInnerRole N B V l r) q (inner l i r) in
+        let k : IsInduction N B (inner l i r).0 l r step = subst (HasInnerRole N B (inner l i r).0 l r) q (inner l i r).1 in
         writes_on B us k.word r (k.always us pass) k.does

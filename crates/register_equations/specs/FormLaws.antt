@@ -1,6 +1,10 @@
 -- When the forms at the words of a nest are true of a run.
-use Rattle.std.specs.Prelude.{ℕ, ◌≡◌, ◌<◌, true, List, Option, Some, ℤ}
+use Rattle.std.specs.Prelude.{ℕ, ◌≡◌, ◌<◌, true, List, Option, Some, None, ℤ}
+use Rattle.std.specs.List.{Contains}
 use Rattle.linear_forms.specs.Forms.{LinearForm, exact}
+use Rattle.loop_data.specs.declared.classes.Classes.{Classes}
+use Rattle.loop_data.specs.declared.equations.Duty.{Duty}
+use Rattle.loop_data.specs.declared.equations.Equations.{Equations}
 use Rattle.loop_data.specs.declared.graph.Graph.{Graph}
 use Rattle.loop_data.specs.declared.shape.Level.{Level}
 use Rattle.loop_data.specs.Nests.{Nest, has, In, Among, nest_of, IsPass}
@@ -10,15 +14,16 @@ use Rattle.loop_data.specs.Turns.{turn}
 use Rattle.loop_data.specs.Locations.{no_cells}
 use Rattle.loop_data.specs.LoopCode.{LoopCode, code_of, any_writes, IsUnwritten}
 use Rattle.loop_data.specs.Independent.{Role, Keeps, Moves}
-use Rattle.loop_data.specs.Classes.{FactsOf, HasRole, HasInnerRole}
 use Rattle.loop_data.specs.FormRows.{duty}
 use Rattle.loop_data.specs.Equations.{AreForms, IsConfirmed}
 use Rattle.loop_data.specs.Holds.{entry_of, times, HoldsAt, FormsHold}
+use Rattle.loop_data.specs.Lookups.{form_at}
+use Rattle.loop_data.specs.Results.{AreClasses, AreEquations}
 use Rattle.loop_data.specs.Executing.{AreProgramWords, Executes, IsOf32Bits}
 
 -- the forms are a solution of the equations of a nest, by roles that its loops give the locations
-pub record AreSolved (N : Nest) (B : LoopCode) (roles : Level → ℕ → Role) (at : ℕ → ℕ
-    → Option LinearForm) : Type 0 where
+pub record AreSolved (N : Nest) (B : LoopCode) (roles : Level → ℕ → Role) (at : ℕ → ℕ → Option LinearForm)
+    : Type 0 where
   -- what a loop keeps it does not write
   pub keeps : (l : Level) → Among N l → (r : ℕ) → roles l r ≡ Keeps → IsUnwritten B l r
   -- what it moves on it writes on every pass
@@ -53,10 +58,19 @@ TurnsLaw = (G : Graph) (levels : List Level) (nest : AreNest G levels) → ArePr
     → ((n : ℕ) → turn N.root s n < p → goes_at (has N.root.body) (run s n).next ≡ true → MeetsDuties N B at s n)
     → FormsHold N B.cells at s p
 
--- roles that are the classes of the locations are such roles
-abbrev pub RoleLaw : Type 0
-RoleLaw = (N : Nest) (B : LoopCode) (V : FactsOf) (roles : Level → ℕ → Role) (at : ℕ → ℕ → Option LinearForm)
-    → ((r : ℕ) → HasRole N B V r (roles N.root r))
-    → ((l : Level) → In N.inner l → (r : ℕ) → HasInnerRole N B V l r (roles l r))
-    → AreForms N B roles at → ((l : Level) → Among N l → (r : ℕ) → IsConfirmed N B roles at l r)
-    → AreSolved N B roles at
+-- up to visit n a run executes the words of the nest, and before it the values of the duties that are listed
+-- are numbers of 32 bits
+pub record MeetsListed (N : Nest) (B : LoopCode) (listed : List Duty) (s : State) (n : ℕ) : Type 0 where
+  pub executes : Executes N B s n
+  pub met : (m : ℕ) (d : Duty) → m < n → Contains listed d → walk s m ≡ d.at
+      → IsOf32Bits (exact d.form (entry_of B.cells s) (times N s m))
+
+-- what the passes over a nest give is true of a run: where the equations go by the classes of its locations,
+-- and no induction stays unconfirmed, the forms hold at visit n
+abbrev pub ResultLaw : Type 0
+ResultLaw = (G : Graph) (levels : List Level) (nest : AreNest G levels) → AreProgramWords G →
+    let N = nest_of G nest.root nest.inner in
+    let B = code_of G no_cells in
+    (c : Classes) (e : Equations) (s : State) (n : ℕ) → AreClasses G levels no_cells c
+    → AreEquations G levels no_cells c e → e.unconfirmed ≡ None → MeetsListed N B e.duties s n
+    → HoldsAt N B.cells (form_at e.points) s n

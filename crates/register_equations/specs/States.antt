@@ -77,7 +77,7 @@ pub record AreFormsAt (B : LoopCode) (levels inner : List Level) (root : Level) 
   pub other : v ≢ root.header
       → ((l : Level) × Contains inner l × (v ≡ l.header)
       × ((r : ℕ) → r < 48 → IsHeaderForm B levels classes l (IsMet inner instrs points sources v r) r
-          (forms_in state r)))
+      (forms_in state r)))
       ⊎ (((l : Level) → Contains inner l → v ≢ l.header)
       × ((r : ℕ) → r < 48 → IsMet inner instrs points sources v r (forms_in state r)))
 
@@ -86,7 +86,7 @@ abbrev pub IsFormPlace : LoopCode → List Level → List Level → Level → Cl
     → List (Option Instr) → List Point → ℕ → Type 0
 IsFormPlace B levels inner root classes rows instrs points p =
     AreFormsAt B levels inner root classes instrs points (row_at rows p) (point_at points p).at
-        (point_at points p).forms
+    (point_at points p).forms
 
 -- the new points are the old ones with other forms at place p, which are right
 pub record AreFormsSet (B : LoopCode) (levels inner : List Level) (root : Level) (classes : Classes)

@@ -34,8 +34,12 @@ fn turned(form: Form, turns: [i64; 3]) -> Form
     requires first { is_small (slice_index_or turns 0 (pos 0)) ≡ true }
     requires second { is_small (slice_index_or turns 1 (pos 0)) ≡ true }
     requires third { is_small (slice_index_or turns 2 (pos 0)) ≡ true }
-    ensures { result ≡ record form { first = slice_index_or turns 0 (pos 0); second = slice_index_or turns 1
-        (pos 0); third = slice_index_or turns 2 (pos 0) } }
+    ensures { result ≡ record form {
+      first = slice_index_or turns 0 (pos 0);
+      second = slice_index_or turns 1
+          (pos 0);
+      third = slice_index_or turns 2 (pos 0);
+    } }
 {
     Form {
         constant: form.constant,
