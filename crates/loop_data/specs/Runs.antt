@@ -6,6 +6,7 @@ use Rattle.rv64_decode.specs.Ask.{Ask, Nothing, answer, after}
 use Rattle.rv64_decode.specs.Fetched.{instr_at}
 use Rattle.rv64_decode.specs.Table.{decoded}
 use Rattle.rv64_decode.specs.Row.{asks, outcome}
+use Rattle.rv64_decode.specs.Table.{decoded}
 use Rattle.rv64_decode.specs.declared.memory.MemFault.{MemFault}
 use Rattle.rv64_decode.specs.declared.instr.Instr.{Instr}
 use Rattle.rv64_decode.specs.declared.outcome.Fault.TheVariants.{Fetch, Illegal}

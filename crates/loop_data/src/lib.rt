@@ -9,24 +9,30 @@
 //! They speak of addresses, words and what these stand for, and of nothing of the code that finds them.
 #![tactic(auto)]
 
+pub mod accesses;
 pub mod cells;
 pub mod classes;
 pub mod equations;
 pub mod flow;
 pub mod graph;
 pub mod laws;
+pub mod plans;
 pub mod shape;
+pub mod trips;
 pub mod value_places;
 pub mod value_rows;
 pub mod values;
 pub mod verdict;
 
+pub use accesses::{Access, Accesses};
 pub use cells::Cells;
 pub use classes::{Class, Classes};
 pub use equations::{Duties, Duty, Equations, Point, Points};
 pub use flow::{Flow, loop_flow};
 pub use graph::{Addresses, Graph, GraphWords, Word};
+pub use plans::{Plan, Term};
 pub use shape::{Level, Levels, LoopShape};
+pub use trips::{Relation, Trip};
 pub use value_places::value_pass;
 pub use values::{Value, Values};
 pub use verdict::{Cell, Verdict};
