@@ -30,4 +30,5 @@ pub mod FactLaws
 pub mod Flows
 pub mod Lookups
 pub mod Results
+pub mod Trips
 pub mod ValueStates

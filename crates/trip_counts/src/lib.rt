@@ -1,0 +1,8 @@
+//! How many turns of a loop stay in it, as its exit branch tells before the loop begins.
+#![tactic(auto)]
+
+mod forms;
+mod relations;
+mod trips;
+
+pub use trips::{NoTrip, trip};
