@@ -1,0 +1,6 @@
+ghost use Rattle.report_text.specs.LineLaws.{Hex8Law};
+
+/// An address below 2^32 is written with 8 lower-case hexadecimal digits, the most significant first.
+pub fn addresses_are_hexadecimal()
+    ensures { Hex8Law }
+{}
