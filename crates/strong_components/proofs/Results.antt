@@ -1,6 +1,6 @@
 -- The numbers that a finished search gives.
 use Rattle.std.proofs.Common.{ℕ, zero, suc, ◌≡◌, ◌<◌, ◌≤◌, ◌↔◌, List, [], ◌∷◌, length, map, get_or, replicate, Some, sym, ap, ◌∙◌, arith}
-use Rattle.std.specs.List.{slice_get}
+use Rattle.std.specs.List.{slice_get, Contains}
 use Rattle.std.specs.Option.{option_map}
 use Rattle.std.proofs.lemmas.Option.{none-some, same_Some, slice_get_within, slice_get-get_or, get_or_from_slice_get, slice_get-map}
 use Rattle.std.proofs.lemmas.List.{length-replicate}
@@ -11,6 +11,7 @@ use Rattle.strong_components.specs.declared.search.Mark.{Mark}
 use Rattle.strong_components.specs.declared.search.Mark.TheVariants.{Unseen, Open, Closed}
 use Rattle.strong_components.specs.Graph.{IsEdge, IsPath, HasPath}
 use Rattle.strong_components.specs.Search.{is_unseen, number_of, IsState, IsSound}
+use Rattle.strong_components.proofs.Lists.{contains_from_get}
 use Rattle.strong_components.proofs.States.{mark_cases, idle_empty}
 
 replicate_get : (n v : ℕ) (x y : Mark) → slice_get (replicate n x) v ≡ Some y → x ≡ y
@@ -36,6 +37,7 @@ state_fresh nodes n is =
       done = λ i u w a off edge. absurd (none-some u a);
       closed_edges = λ u w c e edge. absurd (never_closed u c e);
       closed_below = λ u c e. absurd (never_closed u c e);
+      closed_used = λ c h. absurd (omega arith);
       closed_joined = λ u v c e f. absurd (never_closed u c e);
       counted = let l = count_by-le-length is_unseen (replicate n Unseen) in omega arith;
       stacked = let l = count_by-le-length is_unseen (replicate n Unseen) in omega arith;
@@ -67,6 +69,14 @@ number_below nodes s state v one =
     let few = state.counted in
     let given = one.given in
     omega arith
+
+-- each number up to that of a node is that of a node
+pub numbers_used : (nodes : List Successors) (s : Search) → IsSound nodes s → (v : ℕ) → IsNumbered s.marks.items v → (k : ℕ) → k ≤ get_or (map number_of s.marks.items) v 0 → Contains (map number_of s.marks.items) k
+numbers_used nodes s state v one k low =
+    let below = state.closed_below v one.number one.is in
+    let given = one.given in
+    let used = state.closed_used k (omega arith) in
+    contains_from_get (map number_of s.marks.items) used.node k (slice_get-map number_of s.marks.items used.node ∙ ap (option_map number_of) used.is)
 
 -- along an edge the number does not rise
 pub edge_order : (nodes : List Successors) (s : Search) → IsSound nodes s → ((v : ℕ) → v < length nodes → IsNumbered s.marks.items v) → (a b : ℕ) → IsEdge nodes a b → get_or (map number_of s.marks.items) b 0 ≤ get_or (map number_of s.marks.items) a 0

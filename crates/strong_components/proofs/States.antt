@@ -11,7 +11,7 @@ use Rattle.strong_components.specs.declared.search.Search.{Search}
 use Rattle.strong_components.specs.declared.search.Mark.{Mark}
 use Rattle.strong_components.specs.declared.search.Mark.TheVariants.{Unseen, Open, Closed}
 use Rattle.strong_components.specs.Graph.{IsEdge, LeadsTo, LeadsInside, HasPath}
-use Rattle.strong_components.specs.Search.{IsLast, IsCut, unseen_count, closed_from, IsDone, IsClosedBy, IsEntered, IsMerged, IsReady, IsSound, KeepsSeen, work_left, IsState}
+use Rattle.strong_components.specs.Search.{IsLast, IsCut, unseen_count, closed_from, IsDone, IsClosedBy, IsUsed, IsEntered, IsMerged, IsReady, IsSound, KeepsSeen, work_left, IsState}
 use Rattle.strong_components.proofs.Lists.{get_push_same, get_push_old, get_push_cases, get_set_same, get_set_other, get_set_cases, get_take, get_take_some, contains_from_get, Rises_push, Rises_pop, last_greatest}
 use Rattle.strong_components.proofs.Paths.{edge_from, reaches_self, reaches_through, reaches_next}
 use Rattle.strong_components.proofs.Closing.{after_low, after_high, after_closed, before_unseen, before_open, before_closed, weight_of, unseen_count-closed}
@@ -100,6 +100,12 @@ state_enter nodes marks stack bounds path count w s unseen led =
             })
       ];
       closed_below = λ u c e. elim (get_set_cases marks w u (Open k) (Closed c) inside e) [ inl h ↦ absurd (let b = h.1 in cc) | inr h ↦ s.closed_below u c h.1 ];
+      closed_used = λ c h.
+          let old = s.closed_used c h in
+          record {
+            node = old.node;
+            is = get_set_other marks w old.node (Open k) (λ (same : old.node ≡ w). absurd (let there : slice_get marks w ≡ Some (Closed c) = subst (λ y. slice_get marks y ≡ Some (Closed c)) same old.is in cc)) ∙ old.is;
+          };
       closed_joined = λ u v c e f. elim (get_set_cases marks w u (Open k) (Closed c) inside e) [
         | inl h ↦ absurd (let b = h.1 in cc)
         | inr h ↦ elim (get_set_cases marks w v (Open k) (Closed c) inside f) [ inl g ↦ absurd (let b = g.1 in cc) | inr g ↦ s.closed_joined u v c h.1 g.1 ]
@@ -131,6 +137,7 @@ state_merge nodes marks stack bounds path count t u w p fewer s is_last at edge 
           record { seen = d.seen; joined = λ q is b has up. d.joined q is b (cut.old_ones b has) up };
       closed_edges = s.closed_edges;
       closed_below = s.closed_below;
+      closed_used = s.closed_used;
       closed_joined = s.closed_joined;
       counted = let a = s.counted in let b = cut.no_more in omega arith;
       stacked = s.stacked;
@@ -158,6 +165,7 @@ state_leave nodes marks stack bounds path count t u s at all_done no_bound =
       ];
       closed_edges = s.closed_edges;
       closed_below = s.closed_below;
+      closed_used = s.closed_used;
       closed_joined = s.closed_joined;
       counted = s.counted;
       stacked = s.stacked;
@@ -230,6 +238,10 @@ state_close nodes marks stack bounds path count t u inside s at all_done =
             subst (IsClosedBy (map (closed_from t count) marks) w) (sym fresh.is) (done_closed marks all count t fresh.at w in_marks s.closed_below bound_at_t fresh.high d))
       ];
       closed_below = λ v c e. elim (before_closed marks t count v c e) [ inl old ↦ (let l = s.closed_below v c old in omega arith) | inr fresh ↦ (let l = fresh.is in omega arith) ];
+      closed_used = λ c h. elim (cases_eq c count) [
+        | inl same ↦ subst (IsUsed (map (closed_from t count) marks)) (sym same) (record { node = u; is = after_high marks t count u t (s.placed.marked t u at) (omega arith) })
+        | inr other ↦ (let old = s.closed_used c (omega arith) in record { node = old.node; is = after_closed marks t count old.node c old.is })
+      ];
       closed_joined = λ v x c e f. elim (before_closed marks t count v c e) [
         | inl old ↦ elim (before_closed marks t count x c f) [
           | inl old_x ↦ s.closed_joined v x c old old_x

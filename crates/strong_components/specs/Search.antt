@@ -61,6 +61,11 @@ pub record IsClosedBy (marks : List Mark) (w most : ℕ) : Type 0 where
   pub is : slice_get marks w ≡ Some (Closed number)
   pub below : number ≤ most
 
+-- the number of a component is that of a closed node
+pub record IsUsed (marks : List Mark) (number : ℕ) : Type 0 where
+  pub node : ℕ
+  pub is : slice_get marks node ≡ Some (Closed number)
+
 -- The open nodes lie on the stack. Those at the places of the path are being visited, each reached from
 -- the one before. The bounds part the stack into segments, each strongly connected; every node reaches
 -- those above it. What the other open nodes lead to is closed, or open and not in a lower segment.
@@ -80,6 +85,7 @@ pub record IsState (nodes : List Successors) (marks : List Mark) (stack bounds p
   pub closed_edges : (u w c : ℕ) → slice_get marks u ≡ Some (Closed c)
       → IsEdge nodes u w → IsClosedBy marks w c
   pub closed_below : (u c : ℕ) → slice_get marks u ≡ Some (Closed c) → c < count
+  pub closed_used : (c : ℕ) → c < count → IsUsed marks c
   pub closed_joined : (u v c : ℕ) → slice_get marks u ≡ Some (Closed c)
       → slice_get marks v ≡ Some (Closed c) → HasPath nodes u v
   pub counted : count + length bounds + unseen_count marks ≤ length nodes

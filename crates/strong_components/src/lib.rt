@@ -6,14 +6,14 @@ mod search;
 #[cfg(test)]
 mod tests;
 
-ghost use Rattle.std.specs.Prelude.{ℕ, ◌≡◌, ◌+◌, ◌<◌, ◌≤◌, ◌^◌, ◌↔◌, length, slice_index, vec_len, IfOk};
+ghost use Rattle.std.specs.Prelude.{ℕ, ◌≡◌, ◌+◌, ◌<◌, ◌≤◌, ◌^◌, ◌↔◌, length, slice_index, vec_len, Contains, IfOk};
 ghost use Rattle.strong_components.specs.Graph.{IsEdge, LeadsInside, HasPath};
 
 pub use graph::{Successors, leads_inside};
 use search::Search;
 use std::alloc::{AllocError, Global};
 
-/// The number of each node's strongly connected component, from 0. Two nodes have the same number
+/// The number of each node's strongly connected component, from 0 without a gap. Two nodes have the same number
 /// exactly where each is reached from the other. Along an edge the number does not rise, so a component
 /// comes before those that lead to it. It takes time linear in the nodes, and about 40 bytes for each.
 /// Whether a graph's edges lead inside it, [`leads_inside`] tells.
@@ -23,6 +23,8 @@ pub fn components(alloc: Global, nodes: &[Successors]) -> Result<Vec<u32>, Alloc
     ensures each { IfOk result (λ numbers. vec_len numbers ≡ length nodes.now) }
     ensures below { IfOk result (λ numbers. (a : ℕ) → a < length nodes.now
         → slice_index numbers.items a < length nodes.now) }
+    ensures from_zero { IfOk result (λ numbers. (a k : ℕ) → a < length nodes.now
+        → k ≤ slice_index numbers.items a → Contains numbers.items k) }
     ensures same { IfOk result (λ numbers. (a b : ℕ) → a < length nodes.now → b < length nodes.now
         → (slice_index numbers.items a ≡ slice_index numbers.items b)
         ↔ (HasPath nodes.now a b × HasPath nodes.now b a)) }
