@@ -231,7 +231,7 @@ branch_kept true pc to r regs = jump_kept to r regs regs refl
 branch_kept false pc to r regs = refl
 
 -- a register that the instruction does not write keeps its value
-keeps : (i : Instr) (pc r : ℕ) (regs : List ℕ) (told : Result ℕ MemFault) → writes_register i r ≡ false → register (row i pc regs told).regs r ≡ register regs r
+pub keeps : (i : Instr) (pc r : ℕ) (regs : List ℕ) (told : Result ℕ MemFault) → writes_register i r ≡ false → register (row i pc regs told).regs r ≡ register regs r
 keeps (Alu op rd rs1 rs2) pc r regs told e = register-with_kept regs r rd _ e
 keeps (AluImm op rd rs1 imm) pc r regs told e = register-with_kept regs r rd _ e
 keeps (Upper op rd imm) pc r regs told e = register-with_kept regs r rd _ e

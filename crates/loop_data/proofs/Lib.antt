@@ -20,3 +20,4 @@ pub mod Strides
 pub mod FormWords
 pub mod FactWords
 pub mod FactWalks
+pub mod Effects

@@ -32,3 +32,4 @@ pub mod Lookups
 pub mod Results
 pub mod Trips
 pub mod ValueStates
+pub mod EffectLaws

@@ -13,3 +13,12 @@ pub fn one_pass()
     ensures some { SomePassLaw }
     ensures only { OnePassLaw }
 {}
+
+ghost use Rattle.loop_data.specs.EffectLaws.{UnreadLaw, UnwrittenLaw};
+
+/// What an instruction asks of memory, where it leads and what it writes is determined by pc, memory and the
+/// registers that it reads; it leaves the registers that it does not write as they are.
+pub fn registers_of_an_effect()
+    ensures unread { UnreadLaw }
+    ensures unwritten { UnwrittenLaw }
+{}
