@@ -1,5 +1,5 @@
 -- The classes of the registers of a loop, one after the other.
-use Rattle.std.specs.Prelude.{ℕ, ℤ, ◌≡◌, ◌<◌, true, List, Option, Some, None, slice_index_or}
+use Rattle.std.specs.Prelude.{ℕ, ℤ, ◌≡◌, true, List, Option, Some, None, slice_index_or}
 use Rattle.linear_forms.specs.declared.location.Loc.{Loc}
 use Rattle.linear_forms.specs.declared.location.Loc.TheVariants.{Reg}
 use Rattle.loop_data.specs.declared.classes.Class.{Class}

@@ -3,13 +3,13 @@ use Rattle.std.proofs.Common.{◌≡◌, ◌≢◌, ℕ, zero, suc, ◌<◌, ◌
 use Rattle.std.proofs.lemmas.Bool.{cases_eq}
 use mathlib.Core.Path.{fun_ext}
 use Rattle.loop_data.specs.declared.shape.Level.{Level}
-use Rattle.loop_data.specs.Nests.{Nest, Edge, has, In, levels, Among, Holds, IsNest}
-use Rattle.loop_data.specs.LoopCode.{LoopCode, writes, any_writes, IsWritten, IsForwardIn, LiesIn}
+use Rattle.loop_data.specs.Nests.{Nest, has, levels, Among, Holds, IsNest}
+use Rattle.loop_data.specs.LoopCode.{LoopCode, IsWritten, IsForwardIn, LiesIn}
 use Rattle.loop_data.specs.Facts.{Fact, Number, Offset, fact_after}
 use Rattle.loop_data.specs.FactPass.{header_fact, IsKeptAt, AreFacts}
 use Rattle.loop_data.specs.Flows.{closes_one}
 use Rattle.loop_data.specs.ValueStates.{lost_by}
-use Rattle.loop_data.proofs.Tests.{eq_of, ne_of, is_eq, is_ne, true_or_false, and_true, true_and, not_true}
+use Rattle.loop_data.proofs.Tests.{eq_of, is_eq, is_ne, true_or_false, and_true, true_and, not_true}
 use Rattle.loop_data.proofs.FlowEdges.{closes_none, none_closes}
 use Rattle.loop_data.proofs.FactUnique.{none_writes_it, some_writes_it, lost_somewhere, lost_nowhere}
 

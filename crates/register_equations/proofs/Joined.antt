@@ -1,31 +1,29 @@
 -- The classes of a nest and the equations by them are such that the forms hold.
-use Rattle.std.proofs.Common.{◌≡◌, ◌≢◌, ℕ, zero, suc, ◌<◌, ◌⊎◌, inl, inr, ◌==◌, Bool, true, false, if◌then◌else◌, List, [], ◌∷◌, length, map, get_or, ℤ, pos, negsuc, Option, Some, None, refl, ap, sym, ◌∙◌, subst, arith}
+use Rattle.std.proofs.Common.{◌≡◌, ◌≢◌, ℕ, zero, suc, ◌<◌, ◌⊎◌, inl, inr, true, if◌then◌else◌, List, [], ◌∷◌, length, map, get_or, ℤ, pos, negsuc, Option, Some, None, refl, ap, sym, ◌∙◌, subst, arith}
 use Rattle.std.specs.List.{Contains}
 use Rattle.std.proofs.lemmas.Bool.{cases_eq}
 use Rattle.linear_forms.specs.Forms.{LinearForm, EntryTerm, exact}
 use Rattle.loop_data.specs.declared.classes.Class.{Class}
-use Rattle.loop_data.specs.declared.classes.Class.TheVariants.{Induction, Private as PrivateClass}
 use Rattle.loop_data.specs.declared.classes.Classes.{Classes}
 use Rattle.loop_data.specs.declared.equations.Duty.{Duty}
 use Rattle.loop_data.specs.declared.equations.Equations.{Equations}
 use Rattle.loop_data.specs.declared.graph.Graph.{Graph}
 use Rattle.loop_data.specs.declared.shape.Level.{Level}
-use Rattle.loop_data.specs.Nests.{Nest, has, In, Among, Holds, IsNest, nest_of}
+use Rattle.loop_data.specs.Nests.{Nest, In, Among, Holds, IsNest, nest_of}
 use Rattle.loop_data.specs.LoopWords.{AreNest}
 use Rattle.loop_data.specs.Runs.{State, walk}
 use Rattle.loop_data.specs.Locations.{no_cells}
 use Rattle.loop_data.specs.LoopCode.{LoopCode, code_of, any_writes, writes}
-use Rattle.loop_data.specs.Independent.{Role, Keeps, Moves, Private}
+use Rattle.loop_data.specs.Independent.{Role, Moves}
 use Rattle.loop_data.specs.Facts.{Fact}
-use Rattle.loop_data.specs.FactPass.{AreFacts}
 use Rattle.loop_data.specs.Classes.{HasRole, HasInnerRole}
 use Rattle.loop_data.specs.FormRows.{form_after, duty}
-use Rattle.loop_data.specs.Equations.{plus_constant, AreForms, IsConfirmed}
+use Rattle.loop_data.specs.Equations.{plus_constant, IsConfirmed}
 use Rattle.loop_data.specs.Holds.{entry_of, times, HoldsAt}
 use Rattle.loop_data.specs.Lookups.{form_at, role_by, roles_by, classes_of}
-use Rattle.loop_data.specs.Executing.{AreProgramWords, Executes, IsOf32Bits}
-use Rattle.loop_data.specs.Results.{IsNestOf, IsUnconfirmed, IsLeastLocation, AreDuties, AreEquations, AreClasses, class_in, class_at}
-use Rattle.loop_data.proofs.Tests.{is_eq, is_ne, eq_of, ne_of}
+use Rattle.loop_data.specs.Executing.{AreProgramWords, IsOf32Bits}
+use Rattle.loop_data.specs.Results.{IsNestOf, IsUnconfirmed, IsLeastLocation, AreEquations, AreClasses, class_in}
+use Rattle.loop_data.proofs.Tests.{is_eq, is_ne}
 use Rattle.loop_data.proofs.Steps.{has_contains}
 use Rattle.loop_data.proofs.FactsExist.{facts_exist}
 use Rattle.loop_data.proofs.NestVisits.{are_given, holds_word}

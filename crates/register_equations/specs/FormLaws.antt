@@ -7,7 +7,7 @@ use Rattle.loop_data.specs.declared.equations.Duty.{Duty}
 use Rattle.loop_data.specs.declared.equations.Equations.{Equations}
 use Rattle.loop_data.specs.declared.graph.Graph.{Graph}
 use Rattle.loop_data.specs.declared.shape.Level.{Level}
-use Rattle.loop_data.specs.Nests.{Nest, has, In, Among, nest_of, IsPass}
+use Rattle.loop_data.specs.Nests.{Nest, has, Among, nest_of, IsPass}
 use Rattle.loop_data.specs.LoopWords.{AreNest}
 use Rattle.loop_data.specs.Runs.{State, run, walk, goes_at}
 use Rattle.loop_data.specs.Turns.{turn}
