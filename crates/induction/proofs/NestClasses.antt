@@ -30,7 +30,8 @@ use Rattle.induction.specs.Rows.{HasClass, HasInnerClass, IsMoving, TellsRow, Te
 use Rattle.induction.specs.Results.{IsRootRow, IsInnerRow, AreInnerRows, IsLeastCarried}
 use Rattle.loop_data.specs.Results.{IsNestOf, AreSmall, class_in, class_at, AreClasses}
 use Rattle.induction.proofs.PlaceMarks.{levels_of, is_nest}
-use Rattle.induction.proofs.WordLists.{cells_none, rises_at}
+use Rattle.loop_data.proofs.ValuePlaces.{cells_none}
+use Rattle.induction.proofs.WordLists.{rises_at}
 
 -- the loop at a place among the levels, with what is known at its words
 pub record IsAt (G : Graph) (ls : List Level) (i : ℕ) (l : Level) (w : Words) : Type 0 where

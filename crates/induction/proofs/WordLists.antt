@@ -1,9 +1,8 @@
--- Cells and rows of a loop without cells.
+-- What is known at the words of a loop without cells.
 use Rattle.std.proofs.Common.{◌≡◌, ℕ, ◌<◌, List, [], length, get_or, Option, ap, sym, ◌∙◌, subst, arith}
 use Rattle.std.specs.List.Sorted.{IsStrictlyIncreasing}
 use Rattle.std.proofs.lemmas.List.{get_or_default, length-map}
 use Rattle.loop_data.specs.declared.cells.Cells.{Cells}
-use Rattle.loop_data.specs.declared.verdict.Cell.{Cell}
 use Rattle.loop_data.specs.declared.graph.Graph.{Graph}
 use Rattle.loop_data.specs.declared.flow.Flow.{Flow}
 use Rattle.loop_data.specs.declared.shape.Level.{Level}
@@ -17,17 +16,10 @@ use Rattle.loop_data.specs.Flows.{rows, AreRowsWithin, IsFlow}
 use Rattle.loop_data.specs.Lookups.{cell_map, use_of, fact_at}
 use Rattle.loop_data.specs.Results.{AreFactsOf}
 use Rattle.loop_data.proofs.FlowEdges.{listed_in}
+use Rattle.loop_data.proofs.ValuePlaces.{cells_none}
 use Rattle.induction.specs.declared.words.Words.{Words}
 use Rattle.induction.specs.Masks.{has_bit, bit_after, AreMasks}
 use Rattle.induction.specs.Words.{AreWords}
-
--- without cells the map of the cells is the empty one
-pub cells_none : (c : Cells) → c.list.items ≡ [] → c.uses.items ≡ [] → cell_map c ≡ no_cells
-cells_none c e f =
-    ap (λ (xs : List Cell). record_of xs (use_of c.uses.items)) e ∙ ap (λ (us : List (ℕ × ℕ)). record_of [] (use_of us)) f
-  where
-    record_of : List Cell → (ℕ → Option ℕ) → CellMap
-    record_of xs uses = record { cells = xs; uses = uses }
 
 pub rows_within : (G : Graph) (ls : List Level) (body : List ℕ) (f : Flow) → IsFlow G ls body f → AreRowsWithin (rows f.sources.items)
 rows_within G ls body f flow j k c =

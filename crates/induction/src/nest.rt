@@ -1,6 +1,6 @@
 ghost use Rattle.std.specs.Prelude.{◌≡◌, ◌<◌, ◌≤◌, [], length, IfOk, IfErr};
 ghost use Rattle.loop_data.specs.LoopWords.{AreNest};
-ghost use Rattle.loop_data.specs.Lookups.{cell_map};
+ghost use Rattle.loop_data.specs.Lookups.{cell_map, HasNoCells};
 ghost use Rattle.loop_data.specs.Paths.{IsInOrder};
 ghost use Rattle.induction.specs.Results.{IsRootRow, IsInnerRow, AreInnerRows, IsRefusal};
 ghost use Rattle.loop_data.specs.Results.{AreClasses};
@@ -20,8 +20,7 @@ fn root_classes(
 ) -> Result<[Option<Class>; 48], ClassErr>
     requires graph { IsInOrder graph.now }
     requires nest { AreNest graph.now shape.now.levels }
-    requires no_cells { cells.now.list.items ≡ [] }
-    requires no_uses { cells.now.uses.items ≡ [] }
+    requires no_cells { HasNoCells cells.now }
     ensures ok { IfOk result (IsRootRow graph.now shape.now.levels (cell_map cells.now)) }
     ensures err { IfErr result (IsRefusal graph.now shape.now.levels (cell_map cells.now)) }
 {
@@ -44,8 +43,7 @@ fn inductions(
     requires graph { IsInOrder graph.now }
     requires nest { AreNest graph.now shape.now.levels }
     requires within { level < length shape.now.levels }
-    requires no_cells { cells.now.list.items ≡ [] }
-    requires no_uses { cells.now.uses.items ≡ [] }
+    requires no_cells { HasNoCells cells.now }
     ensures { IfOk result (IsInnerRow graph.now shape.now.levels (cell_map cells.now) level) }
 {
     let levels = shape.levels.as_slice();
@@ -62,8 +60,7 @@ fn inner_classes(
 ) -> Result<[[Option<Class>; 48]; 3], AllocError>
     requires graph { IsInOrder graph.now }
     requires nest { AreNest graph.now shape.now.levels }
-    requires no_cells { cells.now.list.items ≡ [] }
-    requires no_uses { cells.now.uses.items ≡ [] }
+    requires no_cells { HasNoCells cells.now }
     ensures { IfOk result (AreInnerRows graph.now shape.now.levels (cell_map cells.now) (length shape.now.levels)) }
 {
     let mut inner = [[None; 48]; 3];
@@ -82,8 +79,7 @@ pub fn classes(
 ) -> Result<Classes, ClassErr>
     requires graph { IsInOrder graph.now }
     requires nest { AreNest graph.now shape.now.levels }
-    requires no_cells { cells.now.list.items ≡ [] }
-    requires no_uses { cells.now.uses.items ≡ [] }
+    requires no_cells { HasNoCells cells.now }
     ensures ok { IfOk result (AreClasses graph.now shape.now.levels (cell_map cells.now)) }
     ensures err { IfErr result (IsRefusal graph.now shape.now.levels (cell_map cells.now)) }
 {

@@ -2,6 +2,7 @@ ghost use Rattle.std.specs.Prelude.{ℕ, ◌≡◌, ◌<◌, [], true, false, le
 ghost use Rattle.std.specs.List.Sorted.{IsStrictlyIncreasing};
 ghost use Rattle.loop_data.specs.declared.shape.Level.{Level};
 ghost use Rattle.loop_data.specs.LoopWords.{AreNest};
+ghost use Rattle.loop_data.specs.Lookups.{HasNoCells};
 ghost use Rattle.loop_data.specs.Paths.{IsInOrder};
 ghost use Rattle.induction.specs.Masks.{IsMaskPast};
 ghost use Rattle.induction.specs.Words.{AreWordsAt, IsPrivateAt, IsNotPrivateAt};
@@ -50,8 +51,7 @@ pub fn words_of(
     requires graph { IsInOrder graph.now }
     requires nest { AreNest graph.now shape.now.levels }
     requires within { level < length shape.now.levels }
-    requires no_cells { cells.now.list.items ≡ [] }
-    requires no_uses { cells.now.uses.items ≡ [] }
+    requires no_cells { HasNoCells cells.now }
     ensures { IfOk result (AreWordsAt graph.now shape.now.levels level) }
 {
     let levels = shape.levels.as_slice();

@@ -172,22 +172,34 @@ pub record Visit (B : LoopCode) (s : State) (m : ℕ) : Type 0 where
   pub registers : AreWords (run s m).regs
   pub next : run s (suc m) ≡ performed does (walk s m) (run s m).regs (run s m).memory
 
-module _ (N : Nest) (B : LoopCode) (given : AreGiven N B) (s : State) (n : ℕ) (e : Executes N B s n) where
-  pub here : (m : ℕ) → m ≤ n → (run s m).next ≡ At (walk s m)
-  here m le = goes_here (has N.root.body) (run s m).next (e.inside m le)
+-- words that a walk may follow inside a loop, one after the other
+pub record IsInside (N : Nest) (l : Level) (pc : ℕ → ℕ) (n : ℕ) : Type 0 where
+  pub start : pc 0 ≡ l.header
+  pub body : (m : ℕ) → m ≤ n → has l.body (pc m) ≡ true
+  pub leads : (m : ℕ) → m < n → N.leads (pc m) (pc (suc m)) ≡ true
 
-  pub holds_word : (m : ℕ) → m ≤ n → has N.root.body (walk s m) ≡ true
-  holds_word m le = goes_to (has N.root.body) (run s m).next (e.inside m le)
+pub edge_in : (N : Nest) (l : Level) (pc : ℕ → ℕ) (n : ℕ) → IsInside N l pc (suc n) → Edge N l.body (pc n) (pc (suc n))
+edge_in N l pc n inside = record { from = inside.body n (omega arith); to = inside.body (suc n) (omega arith); leads = inside.leads n (omega arith) }
+
+pub is_inside_less : (N : Nest) (l : Level) (pc : ℕ → ℕ) (n : ℕ) → IsInside N l pc (suc n) → IsInside N l pc n
+is_inside_less N l pc n inside = record { start = inside.start; body = λ m le. inside.body m (omega arith); leads = λ m lt. inside.leads m (omega arith) }
+
+module _ (N : Nest) (B : LoopCode) (given : AreGiven N B) (l : Level) (within : (x : ℕ) → has l.body x ≡ true → has N.root.body x ≡ true) (s : State) (n : ℕ) (e : Executes l B s n) where
+  pub here_in : (m : ℕ) → m ≤ n → (run s m).next ≡ At (walk s m)
+  here_in m le = goes_here (has l.body) (run s m).next (e.inside m le)
+
+  pub holds_in : (m : ℕ) → m ≤ n → has l.body (walk s m) ≡ true
+  holds_in m le = goes_to (has l.body) (run s m).next (e.inside m le)
 
   visit_from : (m : ℕ) → m < n → AreWords (run s m).regs → Visit B s m
   visit_from m lt ok =
-      let w = given (walk s m) (holds_word m (omega arith)) in
+      let w = given (walk s m) (within (walk s m) (holds_in m (omega arith))) in
       record {
         does = w.does;
         is = w.is;
         range = w.range;
         registers = ok;
-        next = step_is (run s m) (walk s m) w.does (here m (omega arith)) (e.words m lt ∙ w.is);
+        next = step_is (run s m) (walk s m) w.does (here_in m (omega arith)) (e.words m lt ∙ w.is);
       }
 
   sound : (m : ℕ) → m ≤ n → AreWords (run s m).regs × AreBytes (run s m).memory
@@ -199,23 +211,37 @@ module _ (N : Nest) (B : LoopCode) (given : AreGiven N B) (s : State) (n : ℕ) 
         subst (λ (x : State). AreBytes x.memory) (sym v.next) (after_are (run s m).memory (asks v.does (run s m).regs) a.1),
       )
 
-  pub visit : (m : ℕ) → m < n → Visit B s m
-  visit m lt = visit_from m lt (sound m (omega arith)).0
+  pub visit_in : (m : ℕ) → m < n → Visit B s m
+  visit_in m lt = visit_from m lt (sound m (omega arith)).0
 
   leads_on : (m : ℕ) → m < n → N.leads (walk s m) (walk s (suc m)) ≡ true
   leads_on m lt =
-      let w = given (walk s m) (holds_word m (omega arith)) in
-      let v = step_is (run s m) (walk s m) w.does (here m (omega arith)) (e.words m lt ∙ w.is) in
+      let w = given (walk s m) (within (walk s m) (holds_in m (omega arith))) in
+      let v = step_is (run s m) (walk s m) w.does (here_in m (omega arith)) (e.words m lt ∙ w.is) in
       w.leads (walk s (suc m))
-      (leads_there w.does (walk s m) (walk s (suc m)) (run s m).regs (answer (run s m).memory (asks w.does (run s m).regs)) w.plain (sym (ap (λ (x : State). x.next) v) ∙ here (suc m) lt))
+      (leads_there w.does (walk s m) (walk s (suc m)) (run s m).regs (answer (run s m).memory (asks w.does (run s m).regs)) w.plain (sym (ap (λ (x : State). x.next) v) ∙ here_in (suc m) lt))
 
-  -- the walk goes along edges of the root
+  -- the walk goes along edges of the loop
+  pub walks_in : IsInside N l (walk s) n
+  walks_in = record { start = ap pc_in e.start; body = holds_in; leads = leads_on }
+
+-- the same for the root
+module _ (N : Nest) (B : LoopCode) (given : AreGiven N B) (s : State) (n : ℕ) (e : Executes N.root B s n) where
+  pub here : (m : ℕ) → m ≤ n → (run s m).next ≡ At (walk s m)
+  here = here_in N B given N.root (λ x h. h) s n e
+
+  pub holds_word : (m : ℕ) → m ≤ n → has N.root.body (walk s m) ≡ true
+  holds_word = holds_in N B given N.root (λ x h. h) s n e
+
+  pub visit : (m : ℕ) → m < n → Visit B s m
+  visit = visit_in N B given N.root (λ x h. h) s n e
+
   pub walks_inside : Inside N (walk s) n
-  walks_inside = record { start = ap pc_in e.start; body = holds_word; leads = leads_on }
+  walks_inside = let w = walks_in N B given N.root (λ x h. h) s n e in record { start = w.start; body = w.body; leads = w.leads }
 
 -- the visits before visit n too
-pub executes_less : (N : Nest) (B : LoopCode) (s : State) (n m : ℕ) → m ≤ n → Executes N B s n → Executes N B s m
-executes_less N B s n m le e =
+pub executes_less : (l : Level) (B : LoopCode) (s : State) (n m : ℕ) → m ≤ n → Executes l B s n → Executes l B s m
+executes_less l B s n m le e =
     record {
       start = e.start;
       registers = e.registers;

@@ -1,4 +1,4 @@
--- A run that executes the words of a nest: what the laws of the facts and of the forms ask of it.
+-- A run that executes the words of a loop: what the laws of the facts and of the forms ask of it.
 use Rattle.std.specs.Prelude.{ℕ, zero, suc, ◌≡◌, ◌≤◌, ◌<◌, ◌^◌, true, if◌then◌else◌, ℤ, pos}
 use Rattle.std.specs.List.{Contains}
 use Rattle.rv64_decode.specs.Form.{IsSigned}
@@ -9,7 +9,7 @@ use Rattle.loop_data.specs.declared.graph.Word.{Word}
 use Rattle.loop_data.specs.declared.graph.Graph.{Graph}
 use Rattle.loop_data.specs.declared.shape.Level.{Level}
 use Rattle.loop_data.specs.Paths.{IsInOrder}
-use Rattle.loop_data.specs.Nests.{Nest, has}
+use Rattle.loop_data.specs.Nests.{has}
 use Rattle.loop_data.specs.Runs.{State, run, walk, goes_at, instr}
 use Rattle.loop_data.specs.Turns.{arrives}
 use Rattle.loop_data.specs.Locations.{CellMap, value_of}
@@ -20,13 +20,13 @@ pub record AreProgramWords (G : Graph) : Type 0 where
   pub ordered : IsInOrder G
   pub bits : (w : Word) → Contains G.words w → w.bits < 2 ^ 32
 
--- a run from the root's header, of registers that are words and bytes that are bytes, is up to visit n at
--- words of the root, and before visit n executes what they stand for
-pub record Executes (N : Nest) (B : LoopCode) (s : State) (n : ℕ) : Type 0 where
-  pub start : s.next ≡ At N.root.header
+-- a run from a loop's header, of registers that are words and bytes that are bytes, is up to visit n at words
+-- of the loop, and before visit n executes what they stand for
+pub record Executes (l : Level) (B : LoopCode) (s : State) (n : ℕ) : Type 0 where
+  pub start : s.next ≡ At l.header
   pub registers : AreWords s.regs
   pub bytes : AreBytes s.memory
-  pub inside : (m : ℕ) → m ≤ n → goes_at (has N.root.body) (run s m).next ≡ true
+  pub inside : (m : ℕ) → m ≤ n → goes_at (has l.body) (run s m).next ≡ true
   pub words : (m : ℕ) → m < n → instr (run s m) ≡ B.instr (walk s m)
 
 -- the value of a location at visit n

@@ -18,15 +18,16 @@ use Rattle.loop_data.specs.Facts.{Fact, Number, Offset, fact_after}
 use Rattle.loop_data.specs.FactPass.{AreFacts}
 use Rattle.loop_data.specs.Executing.{AreProgramWords, Executes, value_at, arrival, IsOf32Bits}
 
--- the value that a fact gives, where the locations have these values at the turn's arrival
+-- the value that a fact gives, where the locations have these values at the arrival
 abbrev pub fact_value : (ℕ → ℤ) → Fact → ℤ
 fact_value base (Number z) = z
 fact_value base (Offset q z) = base q +ℤ z
 
--- each location with a fact at the word of visit n has the value that the fact gives
-abbrev pub FactsHoldAt : Nest → CellMap → (ℕ → ℕ → Option Fact) → State → ℕ → Type 0
-FactsHoldAt N C V s n = (r : ℕ) (x : Fact) → V (walk s n) r ≡ Some x
-    → Alike (value_at C s n r) (fact_value (value_at C s (arrival N.root s n)) x)
+-- each location with a fact at the word of visit n has the value that the fact gives, over those at the last
+-- arrival at the loop's header
+abbrev pub FactsHoldAt : Level → CellMap → (ℕ → ℕ → Option Fact) → State → ℕ → Type 0
+FactsHoldAt l C V s n = (r : ℕ) (x : Fact) → V (walk s n) r ≡ Some x
+    → Alike (value_at C s n r) (fact_value (value_at C s (arrival l s n)) x)
 
 -- a sum or a difference of numbers of 32 bits
 abbrev pub is_short_sum : Option Instr → Bool
@@ -35,21 +36,23 @@ is_short_sum (Some (Alu Subw rd rs1 rs2)) = true
 is_short_sum (Some (AluImm Addiw rd rs1 imm)) = true
 is_short_sum _ = false
 
--- such a sum before visit n, which the pass sees as the value of a location and a number, loses no bits
-abbrev pub KeepsBits : Nest → LoopCode → (ℕ → ℕ → Option Fact) → State → ℕ → Type 0
-KeepsBits N B V s n = (m r q : ℕ) (z : ℤ) → m < n → is_short_sum (B.instr (walk s m)) ≡ true
+-- such a sum since that arrival and before visit n, which the pass sees as the value of a location and a
+-- number, loses no bits
+abbrev pub KeepsBits : Level → LoopCode → (ℕ → ℕ → Option Fact) → State → ℕ → Type 0
+KeepsBits l B V s n = (m r q : ℕ) (z : ℤ) → arrival l s n ≤ m → m < n → is_short_sum (B.instr (walk s m)) ≡ true
     → writes B (walk s m) r ≡ true → fact_after B (walk s m) (V (walk s m)) r ≡ Some (Offset q z)
-    → IsOf32Bits (value_at B.cells s (arrival N.root s m) q +ℤ z)
+    → IsOf32Bits (value_at B.cells s (arrival l s n) q +ℤ z)
 
--- where a run executes the words of a nest, and no such sum loses bits, the facts of the root's pass hold
+-- where a run executes the words of a loop of a nest, and no such sum loses bits, the facts of the loop's pass
+-- hold
 abbrev pub FactLaw : Type 0
 FactLaw = (G : Graph) (levels : List Level) (nest : AreNest G levels) → AreProgramWords G →
     let N = nest_of G nest.root nest.inner in
     let B = code_of G no_cells in
-    (V : ℕ → ℕ → Option Fact) (s : State) (n : ℕ) → AreFacts N B N.root V → Executes N B s n
-    → KeepsBits N B V s n → FactsHoldAt N B.cells V s n
+    (l : Level) (V : ℕ → ℕ → Option Fact) (s : State) (n : ℕ) → Among N l → AreFacts N B l V
+    → Executes l B s n → KeepsBits l B V s n → FactsHoldAt l B.cells V s n
 
--- the visit that is named so is that at which the turn arrived, and none later than visit n
+-- `arrival` is a visit at which a turn arrived, that of visit n, and none later than this
 abbrev pub ArrivalLaw : Type 0
 ArrivalLaw = (l : Level) (s : State) (n : ℕ) → s.next ≡ At l.header
     → IsArrival l s (turn l s n) (arrival l s n) × (arrival l s n ≤ n)

@@ -1,5 +1,5 @@
 -- What the results of the analysis say of an address and a location.
-use Rattle.std.specs.Prelude.{ℕ, ◌==◌, Bool, true, false, nat_lt, if◌then◌else◌, List, [], ◌∷◌, Option, Some, None, slice_index_or}
+use Rattle.std.specs.Prelude.{ℕ, ◌≡◌, ◌==◌, Bool, true, false, nat_lt, if◌then◌else◌, List, [], ◌∷◌, Option, Some, None, slice_index_or}
 use Rattle.rv64_decode.specs.Row.{signed64}
 use Rattle.linear_forms.specs.Forms.{LinearForm}
 use Rattle.linear_forms.specs.Locations.{number_of}
@@ -25,6 +25,11 @@ use_of (use_at ∷ uses) u = if use_at.0 == u then Some use_at.1 else use_of use
 abbrev pub cell_map : Cells → CellMap
 cell_map c = record { cells = c.list.items; uses = use_of c.uses.items }
 
+-- no cells, and no word that accesses one
+pub record HasNoCells (c : Cells) : Type 0 where
+  pub cells : c.list.items ≡ []
+  pub uses : c.uses.items ≡ []
+
 -- the fact that a value stands for
 abbrev pub fact_of : Value → Option Fact
 fact_of (Known n) = Some (Number (signed64 n))
@@ -45,7 +50,8 @@ abbrev pub form_at : List Point → ℕ → ℕ → Option LinearForm
 form_at [] u r = None
 form_at (p ∷ ps) u r = if p.at == u then slice_index_or p.forms r None else form_at ps u r
 
--- what a class says of a location that a loop writes, or does not
+-- what a class says of a location that a loop writes, or does not; where a loop writes one without a class, the
+-- role Private stands for any other way of writing it
 abbrev pub role_by : Bool → Option Class → Role
 role_by written (Some (Induction step)) = Moves step
 role_by written (Some PrivateClass) = Private

@@ -1,7 +1,8 @@
 ghost use Rattle.loop_data.specs.FactLaws.{FactLaw, ArrivalLaw, SomePassLaw, OnePassLaw};
 
-/// Where a run executes the words of a nest without cells, and no sum of 32 bits of a location's value loses
-/// bits, each location with a fact in the root's pass has the value that the fact gives.
+/// Where a run executes the words of a loop of a nest without cells, and no sum of 32 bits of a location's value
+/// loses bits, each location with a fact in the loop's pass has the value that the fact gives, over the values at
+/// the last arrival at the loop's header.
 pub fn facts_hold()
     ensures visit { FactLaw }
     ensures arrival { ArrivalLaw }

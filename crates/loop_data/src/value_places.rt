@@ -8,7 +8,7 @@ ghost use Rattle.loop_data.specs.LoopCode.{any_writes, code_of};
 ghost use Rattle.loop_data.specs.Facts.{Fact};
 ghost use Rattle.loop_data.specs.FactPass.{header_fact};
 ghost use Rattle.loop_data.specs.Flows.{rows, row_at, IsFlow};
-ghost use Rattle.loop_data.specs.Lookups.{fact_of, fact_in, cell_map};
+ghost use Rattle.loop_data.specs.Lookups.{fact_of, fact_in, cell_map, HasNoCells};
 ghost use Rattle.loop_data.specs.Paths.{IsInOrder};
 ghost use Rattle.loop_data.specs.Results.{AreFactsOf};
 ghost use Rattle.loop_data.specs.ValueStates.{past, lost_by, values_at, IsInnerFact, IsState, IsSetAt};
@@ -253,8 +253,7 @@ pub fn value_pass(
     requires graph { IsInOrder graph.now }
     requires nest { AreNest graph.now shape.now.levels }
     requires within { level < length shape.now.levels }
-    requires no_cells { cells.now.list.items ≡ [] }
-    requires no_uses { cells.now.uses.items ≡ [] }
+    requires no_cells { HasNoCells cells.now }
     ensures { IfOk result (λ v. AreFactsOf graph.now shape.now.levels (cell_map cells.now) level v.items) }
 {
     let levels = shape.levels.as_slice();

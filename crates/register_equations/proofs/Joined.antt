@@ -3,6 +3,7 @@ use Rattle.std.proofs.Common.{◌≡◌, ◌≢◌, ℕ, zero, suc, ◌<◌, ◌
 use Rattle.std.specs.List.{Contains}
 use Rattle.std.proofs.lemmas.Bool.{cases_eq}
 use Rattle.linear_forms.specs.Forms.{LinearForm, EntryTerm, exact}
+use Rattle.loop_data.specs.declared.cells.Cells.{Cells}
 use Rattle.loop_data.specs.declared.classes.Class.{Class}
 use Rattle.loop_data.specs.declared.classes.Classes.{Classes}
 use Rattle.loop_data.specs.declared.equations.Duty.{Duty}
@@ -12,7 +13,7 @@ use Rattle.loop_data.specs.declared.shape.Level.{Level}
 use Rattle.loop_data.specs.Nests.{Nest, In, Among, Holds, IsNest, nest_of}
 use Rattle.loop_data.specs.LoopWords.{AreNest}
 use Rattle.loop_data.specs.Runs.{State, walk}
-use Rattle.loop_data.specs.Locations.{no_cells}
+use Rattle.loop_data.specs.Locations.{CellMap, no_cells}
 use Rattle.loop_data.specs.LoopCode.{LoopCode, code_of, any_writes, writes}
 use Rattle.loop_data.specs.Independent.{Role, Moves}
 use Rattle.loop_data.specs.Facts.{Fact}
@@ -20,12 +21,13 @@ use Rattle.loop_data.specs.Classes.{HasRole, HasInnerRole}
 use Rattle.loop_data.specs.FormRows.{form_after, duty}
 use Rattle.loop_data.specs.Equations.{plus_constant, IsConfirmed}
 use Rattle.loop_data.specs.Holds.{entry_of, times, HoldsAt}
-use Rattle.loop_data.specs.Lookups.{form_at, role_by, roles_by, classes_of}
+use Rattle.loop_data.specs.Lookups.{cell_map, HasNoCells, form_at, role_by, roles_by, classes_of}
 use Rattle.loop_data.specs.Executing.{AreProgramWords, IsOf32Bits}
 use Rattle.loop_data.specs.Results.{IsNestOf, IsUnconfirmed, IsLeastLocation, AreEquations, AreClasses, class_in}
 use Rattle.loop_data.proofs.Tests.{is_eq, is_ne}
 use Rattle.loop_data.proofs.Steps.{has_contains}
 use Rattle.loop_data.proofs.FactsExist.{facts_exist}
+use Rattle.loop_data.proofs.ValuePlaces.{cells_none}
 use Rattle.loop_data.proofs.NestVisits.{are_given, holds_word}
 use Rattle.register_equations.specs.FormLaws.{AreSolved, MeetsDuties, MeetsListed}
 use Rattle.register_equations.proofs.Solutions.{roles_solve}
@@ -203,5 +205,12 @@ module _ (G : Graph) (ls : List Level) (nest : AreNest G ls) (words : AreProgram
           let same = same_form f (d.0).form (sym owes ∙ subst (λ u. duty B u (at u) ≡ Some (d.0).form) d.2 is) in
           subst (λ g. IsOf32Bits (exact g (entry_of B.cells s) (times N s m))) (sym same) (listed.met m d.0 lt d.1 (sym d.2))
 
-  pub holds : (s : State) (n : ℕ) → e.unconfirmed ≡ None → MeetsListed N B e.duties s n → HoldsAt N B.cells at s n
-  holds s n none listed = form_law G ls nest words roles at s n (solved none) (met s n listed)
+  holds_here : (s : State) (n : ℕ) → e.unconfirmed ≡ None → MeetsListed N B e.duties s n → HoldsAt N B.cells at s n
+  holds_here s n none listed = form_law G ls nest words roles at s n (solved none) (met s n listed)
+
+pub holds : (G : Graph) (ls : List Level) (nest : AreNest G ls) → AreProgramWords G → (cells : Cells) (c : Classes) (e : Equations) (s : State) (n : ℕ) → HasNoCells cells
+    → AreClasses G ls (cell_map cells) c → AreEquations G ls (cell_map cells) c e → e.unconfirmed ≡ None
+    → MeetsListed (nest_of G nest.root nest.inner) (code_of G no_cells) e.duties s n → HoldsAt (nest_of G nest.root nest.inner) no_cells (form_at e.points) s n
+holds G ls nest words cells c e s n none classes equations confirmed =
+    let same = cells_none cells none.cells none.uses in
+    holds_here G ls nest words c e (subst (λ (C : CellMap). AreClasses G ls C c) same classes) (subst (λ (C : CellMap). AreEquations G ls C c e) same equations) s n confirmed

@@ -32,7 +32,7 @@ forms_at N code roles at s n nest given solved met r f k =
     B : LoopCode
     B = plain_code code
 
-    e : Executes N (plain_code code) s n
+    e : Executes N.root (plain_code code) s n
     e = met.executes
 
     flat : (u k : ℕ) → ((r : ℕ) (f : LinearForm) → at u r ≡ Some f → Rattle.linear_forms.specs.Forms.stride f k ≡ pos 0) → (r : ℕ) (f : LinearForm) → Rattle.loop_data.specs.FormRows.form_after (plain_code code) u (at u) r ≡ Some f

@@ -2,6 +2,7 @@
 use Rattle.std.specs.Prelude.{ℕ, ◌≡◌, ◌<◌, true, List, Option, Some, None, ℤ}
 use Rattle.std.specs.List.{Contains}
 use Rattle.linear_forms.specs.Forms.{LinearForm, exact}
+use Rattle.loop_data.specs.declared.cells.Cells.{Cells}
 use Rattle.loop_data.specs.declared.classes.Classes.{Classes}
 use Rattle.loop_data.specs.declared.equations.Duty.{Duty}
 use Rattle.loop_data.specs.declared.equations.Equations.{Equations}
@@ -17,7 +18,7 @@ use Rattle.loop_data.specs.Independent.{Role, Keeps, Moves}
 use Rattle.loop_data.specs.FormRows.{duty}
 use Rattle.loop_data.specs.Equations.{AreForms, IsConfirmed}
 use Rattle.loop_data.specs.Holds.{entry_of, times, HoldsAt, FormsHold}
-use Rattle.loop_data.specs.Lookups.{form_at}
+use Rattle.loop_data.specs.Lookups.{cell_map, form_at, HasNoCells}
 use Rattle.loop_data.specs.Results.{AreClasses, AreEquations}
 use Rattle.loop_data.specs.Executing.{AreProgramWords, Executes, IsOf32Bits}
 
@@ -37,7 +38,7 @@ pub record AreSolved (N : Nest) (B : LoopCode) (roles : Level → ℕ → Role) 
 -- up to visit n a run executes the words of the nest, and before it each value that an instruction on words
 -- of 32 bits owes is a number of 32 bits
 pub record MeetsDuties (N : Nest) (B : LoopCode) (at : ℕ → ℕ → Option LinearForm) (s : State) (n : ℕ) : Type 0 where
-  pub executes : Executes N B s n
+  pub executes : Executes N.root B s n
   pub duties : (m : ℕ) (f : LinearForm) → m < n → duty B (walk s m) (at (walk s m)) ≡ Some f
       → IsOf32Bits (exact f (entry_of B.cells s) (times N s m))
 
@@ -61,16 +62,26 @@ TurnsLaw = (G : Graph) (levels : List Level) (nest : AreNest G levels) → ArePr
 -- up to visit n a run executes the words of the nest, and before it the values of the duties that are listed
 -- are numbers of 32 bits
 pub record MeetsListed (N : Nest) (B : LoopCode) (listed : List Duty) (s : State) (n : ℕ) : Type 0 where
-  pub executes : Executes N B s n
+  pub executes : Executes N.root B s n
   pub met : (m : ℕ) (d : Duty) → m < n → Contains listed d → walk s m ≡ d.at
       → IsOf32Bits (exact d.form (entry_of B.cells s) (times N s m))
 
--- what the passes over a nest give is true of a run: where the equations go by the classes of its locations,
--- and no induction stays unconfirmed, the forms hold at visit n
+-- what the passes over a nest without cells give is true of a run: where the equations go by the classes of its
+-- locations, and no induction stays unconfirmed, the forms hold at visit n
 abbrev pub ResultLaw : Type 0
 ResultLaw = (G : Graph) (levels : List Level) (nest : AreNest G levels) → AreProgramWords G →
     let N = nest_of G nest.root nest.inner in
     let B = code_of G no_cells in
-    (c : Classes) (e : Equations) (s : State) (n : ℕ) → AreClasses G levels no_cells c
-    → AreEquations G levels no_cells c e → e.unconfirmed ≡ None → MeetsListed N B e.duties s n
-    → HoldsAt N B.cells (form_at e.points) s n
+    (cells : Cells) (c : Classes) (e : Equations) (s : State) (n : ℕ) → HasNoCells cells
+    → AreClasses G levels (cell_map cells) c → AreEquations G levels (cell_map cells) c e → e.unconfirmed ≡ None
+    → MeetsListed N B e.duties s n → HoldsAt N B.cells (form_at e.points) s n
+
+-- and at each visit of a word of the nest in the first p turns, where that is so up to each of them
+abbrev pub ResultTurnsLaw : Type 0
+ResultTurnsLaw = (G : Graph) (levels : List Level) (nest : AreNest G levels) → AreProgramWords G →
+    let N = nest_of G nest.root nest.inner in
+    let B = code_of G no_cells in
+    (cells : Cells) (c : Classes) (e : Equations) (s : State) (p : ℕ) → HasNoCells cells
+    → AreClasses G levels (cell_map cells) c → AreEquations G levels (cell_map cells) c e → e.unconfirmed ≡ None
+    → ((n : ℕ) → turn N.root s n < p → goes_at (has N.root.body) (run s n).next ≡ true → MeetsListed N B e.duties s n)
+    → FormsHold N B.cells (form_at e.points) s p

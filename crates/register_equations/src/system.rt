@@ -1,6 +1,6 @@
 ghost use Rattle.std.specs.Prelude.{◌≡◌, [], IfOk};
 ghost use Rattle.loop_data.specs.LoopWords.{AreNest};
-ghost use Rattle.loop_data.specs.Lookups.{cell_map};
+ghost use Rattle.loop_data.specs.Lookups.{cell_map, HasNoCells};
 ghost use Rattle.loop_data.specs.Paths.{IsInOrder};
 ghost use Rattle.loop_data.specs.Results.{AreEquations, AreSmallSteps};
 
@@ -21,8 +21,7 @@ pub fn solve(
 ) -> Result<Equations, AllocError>
     requires graph { IsInOrder graph.now }
     requires nest { AreNest graph.now shape.now.levels }
-    requires no_cells { cells.now.list.items ≡ [] }
-    requires no_uses { cells.now.uses.items ≡ [] }
+    requires no_cells { HasNoCells cells.now }
     requires steps { AreSmallSteps classes.now }
     ensures { IfOk result (AreEquations graph.now shape.now.levels (cell_map cells.now) classes.now) }
 {

@@ -18,5 +18,5 @@ returns c =
     let l = c.index-levels-level.result in
     let w = c.in_ok-words.words in
     let at = is_at c.args.graph.now c.args.shape.now.levels c.as_slice-levels.result.now c.args.level l w c.requires.nest c.requires.within c.as_slice-levels.ensures c.index-levels-level.is c.in_ok-words.ensures in
-    inner_row_is c.args.graph.now c.args.shape.now.levels c.args.level l w c.inner_row.result c.args.cells.now c.requires.no_cells c.requires.no_uses at
+    inner_row_is c.args.graph.now c.args.shape.now.levels c.args.level l w c.inner_row.result c.args.cells.now c.requires.no_cells.cells c.requires.no_cells.uses at
     (subst (λ (ls : List Level). TellsInnerRow ls l w c.inner_row.result) c.as_slice-levels.ensures c.inner_row.ensures)

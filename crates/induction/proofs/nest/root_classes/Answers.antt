@@ -13,7 +13,7 @@ returns-in-Ok-clause-ok c =
     let w = c.in_ok-words.words in
     let few = few_levels c.args.graph.now c.args.shape.now.levels c.requires.nest in
     let at = is_at c.args.graph.now c.args.shape.now.levels c.as_slice-levels.result.now 0 l w c.requires.nest few.1 c.as_slice-levels.ensures c.index-levels-0.is c.in_ok-words.ensures in
-    root_row_is c.args.graph.now c.args.shape.now.levels l w c.in-Ok.row c.args.cells.now c.requires.no_cells c.requires.no_uses at
+    root_row_is c.args.graph.now c.args.shape.now.levels l w c.in-Ok.row c.args.cells.now c.requires.no_cells.cells c.requires.no_cells.uses at
     (subst (λ (ls : List Level). TellsRow ls l w c.in-Ok.row) c.as_slice-levels.ensures c.in-Ok.ensures.ok)
 
 pub returns-clause-err : goal.returns-clause-err
@@ -22,5 +22,5 @@ returns-clause-err c =
     let w = c.in_ok-words.words in
     let few = few_levels c.args.graph.now c.args.shape.now.levels c.requires.nest in
     let at = is_at c.args.graph.now c.args.shape.now.levels c.as_slice-levels.result.now 0 l w c.requires.nest few.1 c.as_slice-levels.ensures c.index-levels-0.is c.in_ok-words.ensures in
-    least_is c.args.graph.now c.args.shape.now.levels l w c.in-Err.loc c.args.cells.now c.requires.no_cells c.requires.no_uses at
+    least_is c.args.graph.now c.args.shape.now.levels l w c.in-Err.loc c.args.cells.now c.requires.no_cells.cells c.requires.no_cells.uses at
     (subst (λ (ls : List Level). IsLeastAt ls l w c.in-Err.loc) c.as_slice-levels.ensures c.in-Err.ensures.err)

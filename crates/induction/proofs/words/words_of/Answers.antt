@@ -36,4 +36,4 @@ returns c m f =
     ∙ ap (λ (xs : List (Option Instr)). bit_after xs c.as_slice-2.result.now p r) c.as_slice.ensures.value
     ∙ ap (λ (xs : List ℕ). bit_after w.flow.instrs.items xs p r) c.as_slice-2.ensures.value in
     subst (λ (x : Level). AreWords c.args.graph.now c.args.shape.now.levels x w) (same_level c.args.shape.now.levels c.args.level l m c.requires.within at f)
-    (words_are c.args.graph.now c.args.shape.now.levels c.args.level l c.args.cells.now w c.requires.no_cells c.requires.no_uses (sym at) flow c.in_ok-points.ensures masks always)
+    (words_are c.args.graph.now c.args.shape.now.levels c.args.level l c.args.cells.now w c.requires.no_cells.cells c.requires.no_cells.uses (sym at) flow c.in_ok-points.ensures masks always)

@@ -9,4 +9,4 @@ use Rattle.loop_data.proofs.value_places.value_pass.Goals as goal
 pub returns : goal.returns
 returns c =
     subst (λ (ls : List Level). AreFactsOf c.args.graph.now ls (cell_map c.args.cells.now) c.args.level c.set_places.new.points.items) c.as_slice-levels.ensures
-    (subst (λ (C : CellMap). AreFactsOf c.args.graph.now c.as_slice-levels.result.now C c.args.level c.set_places.new.points.items) (sym (cells_none c.args.cells.now c.requires.no_cells c.requires.no_uses)) c.set_places.ensures)
+    (subst (λ (C : CellMap). AreFactsOf c.args.graph.now c.as_slice-levels.result.now C c.args.level c.set_places.new.points.items) (sym (cells_none c.args.cells.now c.requires.no_cells.cells c.requires.no_cells.uses)) c.set_places.ensures)

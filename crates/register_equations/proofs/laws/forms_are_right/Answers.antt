@@ -9,4 +9,8 @@ pub returns-clause-turns : goal.returns-clause-turns
 returns-clause-turns c = turns_law
 
 pub returns-clause-results : goal.returns-clause-results
-returns-clause-results c G ls nest words classes e s n are equations none listed = holds G ls nest words classes e are equations s n none listed
+returns-clause-results c = holds
+
+pub returns-clause-results_in_turns : goal.returns-clause-results_in_turns
+returns-clause-results_in_turns c G ls nest words cells classes e s p none are equations confirmed each n lt inside =
+    holds G ls nest words cells classes e s n none are equations confirmed (each n lt inside)

@@ -49,4 +49,4 @@ returns c =
     let astray = subst (λ (ps : List Point). IsLeastAstray (code_of G no_cells) ls classes ps c.unconfirmed-unconfirmed.result) again c.unconfirmed-unconfirmed.ensures in
     let e : Equations = record { points = c.new.result; duties = c.new-2.result; unconfirmed = c.unconfirmed-unconfirmed.result } in
     subst (λ (xs : List Level). AreEquations G xs (cell_map c.args.cells.now) classes e) c.as_slice-levels.ensures
-    (subst (λ (C : CellMap). AreEquations G ls C classes e) (sym (cells_none c.args.cells.now c.requires.no_cells c.requires.no_uses)) (equations_right G ls nest classes e solved duties astray))
+    (subst (λ (C : CellMap). AreEquations G ls C classes e) (sym (cells_none c.args.cells.now c.requires.no_cells.cells c.requires.no_cells.uses)) (equations_right G ls nest classes e solved duties astray))
