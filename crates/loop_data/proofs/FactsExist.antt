@@ -10,6 +10,7 @@ use Rattle.loop_data.specs.FactPass.{header_fact, IsKeptAt, AreFacts}
 use Rattle.loop_data.specs.Flows.{closes_one}
 use Rattle.loop_data.specs.ValueStates.{lost_by}
 use Rattle.loop_data.proofs.Tests.{eq_of, is_eq, is_ne, true_or_false, and_true, true_and, not_true}
+use Rattle.loop_data.proofs.Agreement.{meet, met, meet_same}
 use Rattle.loop_data.proofs.FlowEdges.{closes_none, none_closes}
 use Rattle.loop_data.proofs.FactUnique.{none_writes_it, some_writes_it, lost_somewhere, lost_nowhere}
 
@@ -57,120 +58,8 @@ fact_self None = refl
 fact_self (Some (Number a)) = int_self a
 fact_self (Some (Offset p a)) = true_and (p == p) (same_int a a) (is_eq p p refl) (int_self a)
 
--- what the words that pass a test agree on, if they do
-abbrev first_of : (ℕ → Bool) → (ℕ → Option Fact) → List ℕ → Option Fact
-first_of test val [] = None
-first_of test val (u ∷ us) = if test u then val u else first_of test val us
-
-abbrev agree : (ℕ → Bool) → (ℕ → Option Fact) → Option Fact → List ℕ → Bool
-agree test val o [] = true
-agree test val o (u ∷ us) = if test u then same_fact (val u) o && agree test val o us else agree test val o us
-
-abbrev meet : (ℕ → Bool) → (ℕ → Option Fact) → List ℕ → Option Fact
-meet test val us = if agree test val (first_of test val us) us then first_of test val us else None
-
-has_cases : (y : ℕ) (ys : List ℕ) (x : ℕ) → has (y ∷ ys) x ≡ true → (y ≡ x) ⊎ (has ys x ≡ true)
-has_cases y ys x h = go (y == x) refl h
-  where
-    go : (b : Bool) → (y == x) ≡ b → (if b then true else has ys x) ≡ true → (y ≡ x) ⊎ (has ys x ≡ true)
-    go true e h = inl (eq_of y x e)
-    go false e h = inr h
-
-has_here : (y : ℕ) (ys : List ℕ) → has (y ∷ ys) y ≡ true
-has_here y ys = ap (λ b. if b then true else has ys y) (is_eq y y refl)
-
-has_later : (y : ℕ) (ys : List ℕ) (x : ℕ) → has ys x ≡ true → has (y ∷ ys) x ≡ true
-has_later y ys x h = go (y == x)
-  where
-    go : (b : Bool) → (if b then true else has ys x) ≡ true
-    go true = refl
-    go false = h
-
-agreed : (test : ℕ → Bool) (val : ℕ → Option Fact) (o : Option Fact) (us : List ℕ) → agree test val o us ≡ true
-    → (u : ℕ) → has us u ≡ true → test u ≡ true → val u ≡ o
-agreed test val o [] e u h t = absurd (cc)
-agreed test val o (x ∷ xs) e u h t = go (test x) refl e (has_cases x xs u h) (λ f g. agreed test val o xs f u g t)
-  where
-    go : (b : Bool) → test x ≡ b → (if b then same_fact (val x) o && agree test val o xs else agree test val o xs) ≡ true
-        → (x ≡ u) ⊎ (has xs u ≡ true) → (agree test val o xs ≡ true → has xs u ≡ true → val u ≡ o) → val u ≡ o
-    go true f e (inl q) later =
-        subst (λ z. val z ≡ o) q (fact_is (val x) o (and_true (same_fact (val x) o) (agree test val o xs) e).0)
-    go true f e (inr q) later = later (and_true (same_fact (val x) o) (agree test val o xs) e).1 q
-    go false f e (inl q) later = let t2 = subst (λ z. test z ≡ false) q f in absurd (cc)
-    go false f e (inr q) later = later e q
-
-agree_all : (test : ℕ → Bool) (val : ℕ → Option Fact) (o : Option Fact) (us : List ℕ)
-    → ((u : ℕ) → has us u ≡ true → test u ≡ true → val u ≡ o) → agree test val o us ≡ true
-agree_all test val o [] all = refl
-agree_all test val o (x ∷ xs) all = go (test x) refl (agree_all test val o xs (λ u h. all u (has_later x xs u h)))
-  where
-    go : (b : Bool) → test x ≡ b → agree test val o xs ≡ true
-        → (if b then same_fact (val x) o && agree test val o xs else agree test val o xs) ≡ true
-    go true f rest =
-        true_and (same_fact (val x) o) (agree test val o xs)
-        (subst (λ y. same_fact y o ≡ true) (sym (all x (has_here x xs) f)) (fact_self o)) rest
-    go false f rest = rest
-
-first_some : (test : ℕ → Bool) (val : ℕ → Option Fact) (o : Option Fact) (us : List ℕ)
-    → ((u : ℕ) → has us u ≡ true → test u ≡ true → val u ≡ o) → (w : ℕ) → has us w ≡ true → test w ≡ true
-    → first_of test val us ≡ o
-first_some test val o [] all w h t = absurd (cc)
-first_some test val o (x ∷ xs) all w h t = go (test x) refl (has_cases x xs w h) (λ g. first_some test val o xs (λ u k. all u (has_later x xs u k)) w g t)
-  where
-    go : (b : Bool) → test x ≡ b → (x ≡ w) ⊎ (has xs w ≡ true) → (has xs w ≡ true → first_of test val xs ≡ o)
-        → (if b then val x else first_of test val xs) ≡ o
-    go true f c later = all x (has_here x xs) f
-    go false f (inl q) later = let t2 = subst (λ z. test z ≡ false) q f in absurd (cc)
-    go false f (inr q) later = later q
-
--- where one word passes, the meet is what all that pass have
-met : (test : ℕ → Bool) (val : ℕ → Option Fact) (us : List ℕ) (w : ℕ) → has us w ≡ true → test w ≡ true → (x : Fact)
-    → (meet test val us ≡ Some x) ↔ ((u : ℕ) → has us u ≡ true → test u ≡ true → val u ≡ Some x)
-met test val us w hw tw x = (forth (agree test val (first_of test val us) us) refl, back)
-  where
-    forth : (b : Bool) → agree test val (first_of test val us) us ≡ b
-        → (if b then first_of test val us else None) ≡ Some x → (u : ℕ) → has us u ≡ true → test u ≡ true → val u ≡ Some x
-    forth true e is u h t = agreed test val (first_of test val us) us e u h t ∙ is
-    forth false e is u h t = absurd (cc)
-
-    back : ((u : ℕ) → has us u ≡ true → test u ≡ true → val u ≡ Some x) → meet test val us ≡ Some x
-    back all =
-        let first = first_some test val (Some x) us all w hw tw in
-        ap (λ o. if agree test val o us then o else None) first
-        ∙ ap (λ b. if b then Some x else None) (agree_all test val (Some x) us all)
-
--- it depends on the words that pass alone
-agree_same : (test : ℕ → Bool) (one other : ℕ → Option Fact) (o : Option Fact) (us : List ℕ)
-    → ((u : ℕ) → has us u ≡ true → test u ≡ true → one u ≡ other u) → agree test one o us ≡ agree test other o us
-agree_same test one other o [] same = refl
-agree_same test one other o (x ∷ xs) same = go (test x) refl (agree_same test one other o xs (λ u h. same u (has_later x xs u h)))
-  where
-    go : (b : Bool) → test x ≡ b → agree test one o xs ≡ agree test other o xs
-        → (if b then same_fact (one x) o && agree test one o xs else agree test one o xs)
-        ≡ (if b then same_fact (other x) o && agree test other o xs else agree test other o xs)
-    go true f rest =
-        ap (λ y. same_fact y o && agree test one o xs) (same x (has_here x xs) f)
-        ∙ ap (λ b. same_fact (other x) o && b) rest
-    go false f rest = rest
-
-first_same : (test : ℕ → Bool) (one other : ℕ → Option Fact) (us : List ℕ)
-    → ((u : ℕ) → has us u ≡ true → test u ≡ true → one u ≡ other u) → first_of test one us ≡ first_of test other us
-first_same test one other [] same = refl
-first_same test one other (x ∷ xs) same = go (test x) refl (first_same test one other xs (λ u h. same u (has_later x xs u h)))
-  where
-    go : (b : Bool) → test x ≡ b → first_of test one xs ≡ first_of test other xs
-        → (if b then one x else first_of test one xs) ≡ (if b then other x else first_of test other xs)
-    go true f rest = same x (has_here x xs) f
-    go false f rest = rest
-
-meet_same : (test : ℕ → Bool) (one other : ℕ → Option Fact) (us : List ℕ)
-    → ((u : ℕ) → has us u ≡ true → test u ≡ true → one u ≡ other u) → meet test one us ≡ meet test other us
-meet_same test one other us same =
-    ap (λ o. if agree test one o us then o else None) (first_same test one other us same)
-    ∙ ap (λ b. if b then first_of test other us else None) (agree_same test one other (first_of test other us) us same)
-
 -- the edge closes no loop
-abbrev is_forward : Nest → Level → ℕ → ℕ → Bool
+abbrev pub is_forward : Nest → Level → ℕ → ℕ → Bool
 is_forward N l v u = has l.body u && (has l.body v && (N.leads u v && (if closes_one (levels N) u v then false else true)))
 
 -- the facts of a word, by so many steps along the order
@@ -179,21 +68,21 @@ facts_by N B l zero v r = None
 facts_by N B l (suc n) v r =
     if v == l.header then header_fact B r else
     if lost_by B (levels N) v r then None else
-    meet (is_forward N l v) (λ u. fact_after B u (facts_by N B l n u) r) l.body
+    meet same_fact fact_is fact_self (is_forward N l v) (λ u. fact_after B u (facts_by N B l n u) r) l.body
 
 open_edge : (b : Bool) → (if b then false else true) ≡ true → b ≡ false
 open_edge true e = absurd (cc)
 open_edge false e = refl
 
 module _ (N : Nest) (B : LoopCode) (l : Level) (nest : IsNest N) (among : Among N l) where
-  forward : (u v : ℕ) → is_forward N l v u ≡ true → IsForwardIn N l.body u v
+  pub forward : (u v : ℕ) → is_forward N l v u ≡ true → IsForwardIn N l.body u v
   forward u v t =
       let a = and_true (has l.body u) _ t in
       let b = and_true (has l.body v) _ a.1 in
       let c = and_true (N.leads u v) _ b.1 in
       record { edge = record { from = a.0; to = b.0; leads = c.0 }; closes = closes_none (levels N) u v (open_edge _ c.1) }
 
-  passes : (u v : ℕ) → IsForwardIn N l.body u v → is_forward N l v u ≡ true
+  pub passes : (u v : ℕ) → IsForwardIn N l.body u v → is_forward N l v u ≡ true
   passes u v f =
       true_and _ _ f.edge.from (true_and _ _ f.edge.to (true_and _ _ f.edge.leads
       (ap (λ b. if b then false else true) (none_closes (levels N) u v f.closes))))
@@ -201,7 +90,7 @@ module _ (N : Nest) (B : LoopCode) (l : Level) (nest : IsNest N) (among : Among 
   abbrev rank : ℕ → ℕ
   rank = nest.shapes.ranked.rank
 
-  rises : (u v : ℕ) → IsForwardIn N l.body u v → rank u < rank v
+  pub rises : (u v : ℕ) → IsForwardIn N l.body u v → rank u < rank v
   rises u v f = nest.shapes.ranked.is.up u v (record { from = nest.bodies.within l among u f.edge.from; to = nest.bodies.within l among v f.edge.to; leads = f.edge.leads }) f.closes
 
   -- more steps than the place in the order change nothing
@@ -210,14 +99,14 @@ module _ (N : Nest) (B : LoopCode) (l : Level) (nest : IsNest N) (among : Among 
   stable (suc n) zero v low high = absurd (omega arith)
   stable (suc n) (suc m) v low high = fun_ext (λ r.
       ap (λ (o : Option Fact). if v == l.header then header_fact B r else if lost_by B (levels N) v r then None else o)
-      (meet_same (is_forward N l v) (λ u. fact_after B u (facts_by N B l n u) r) (λ u. fact_after B u (facts_by N B l m u) r) l.body
+      (meet_same same_fact fact_is fact_self (is_forward N l v) (λ u. fact_after B u (facts_by N B l n u) r) (λ u. fact_after B u (facts_by N B l m u) r) l.body
       (λ u h t. ap (λ S. fact_after B u S r) (stable n m u (let k = rises u v (forward u v t) in omega arith) (let k = rises u v (forward u v t) in omega arith)))))
 
   abbrev found : ℕ → ℕ → Option Fact
   found v = facts_by N B l (suc (rank v)) v
 
   -- each word but the header has a word before it
-  led : (v : ℕ) → Holds l v → v ≢ l.header → (u : ℕ) × IsForwardIn N l.body u v
+  pub led : (v : ℕ) → Holds l v → v ≢ l.header → (u : ℕ) × IsForwardIn N l.body u v
   led v h ne = by (cases_eq v N.root.header)
     where
       inside : (w : ℕ) → IsForwardIn N N.root.body w v → IsForwardIn N l.body w v
@@ -247,18 +136,18 @@ module _ (N : Nest) (B : LoopCode) (l : Level) (nest : IsNest N) (among : Among 
 
   -- past the header and what is lost, the facts are the meet
   met_at : (v r : ℕ) → v ≢ l.header → lost_by B (levels N) v r ≡ false
-      → found v r ≡ meet (is_forward N l v) (λ u. fact_after B u (facts_by N B l (rank v) u) r) l.body
+      → found v r ≡ meet same_fact fact_is fact_self (is_forward N l v) (λ u. fact_after B u (facts_by N B l (rank v) u) r) l.body
   met_at v r ne kept =
-      ap (λ b. if b then header_fact B r else if lost_by B (levels N) v r then None else meet (is_forward N l v) (λ u. fact_after B u (facts_by N B l (rank v) u) r) l.body) (is_ne v l.header ne)
-      ∙ ap (λ b. if b then None else meet (is_forward N l v) (λ u. fact_after B u (facts_by N B l (rank v) u) r) l.body) kept
+      ap (λ b. if b then header_fact B r else if lost_by B (levels N) v r then None else meet same_fact fact_is fact_self (is_forward N l v) (λ u. fact_after B u (facts_by N B l (rank v) u) r) l.body) (is_ne v l.header ne)
+      ∙ ap (λ b. if b then None else meet same_fact fact_is fact_self (is_forward N l v) (λ u. fact_after B u (facts_by N B l (rank v) u) r) l.body) kept
 
   header_is : (r : ℕ) → found l.header r ≡ header_fact B r
-  header_is r = ap (λ b. if b then header_fact B r else if lost_by B (levels N) l.header r then None else meet (is_forward N l l.header) (λ u. fact_after B u (facts_by N B l (rank l.header) u) r) l.body) (is_eq l.header l.header refl)
+  header_is r = ap (λ b. if b then header_fact B r else if lost_by B (levels N) l.header r then None else meet same_fact fact_is fact_self (is_forward N l l.header) (λ u. fact_after B u (facts_by N B l (rank l.header) u) r) l.body) (is_eq l.header l.header refl)
 
   lost_is : (m : Level) → LiesIn N l m → (r : ℕ) → IsWritten B m r → found m.header r ≡ None
   lost_is m i r w =
-      ap (λ b. if b then header_fact B r else if lost_by B (levels N) m.header r then None else meet (is_forward N l m.header) (λ u. fact_after B u (facts_by N B l (rank m.header) u) r) l.body) (is_ne m.header l.header differ)
-      ∙ ap (λ b. if b then None else meet (is_forward N l m.header) (λ u. fact_after B u (facts_by N B l (rank m.header) u) r) l.body) (by (true_or_false (lost_by B (levels N) m.header r)))
+      ap (λ b. if b then header_fact B r else if lost_by B (levels N) m.header r then None else meet same_fact fact_is fact_self (is_forward N l m.header) (λ u. fact_after B u (facts_by N B l (rank m.header) u) r) l.body) (is_ne m.header l.header differ)
+      ∙ ap (λ b. if b then None else meet same_fact fact_is fact_self (is_forward N l m.header) (λ u. fact_after B u (facts_by N B l (rank m.header) u) r) l.body) (by (true_or_false (lost_by B (levels N) m.header r)))
     where
       differ : m.header ≢ l.header
       differ e = i.other (nest.bodies.apart m l i.among among i.header (subst (λ z. Holds m z) e (nest.bodies.header m i.among)))
@@ -281,9 +170,9 @@ module _ (N : Nest) (B : LoopCode) (l : Level) (nest : IsNest N) (among : Among 
       source : (u : ℕ) × IsForwardIn N l.body u v
       source = led v h ne
 
-      law : (meet (is_forward N l v) (λ u. fact_after B u (facts_by N B l (rank v) u) r) l.body ≡ Some x)
+      law : (meet same_fact fact_is fact_self (is_forward N l v) (λ u. fact_after B u (facts_by N B l (rank v) u) r) l.body ≡ Some x)
           ↔ ((u : ℕ) → has l.body u ≡ true → is_forward N l v u ≡ true → fact_after B u (facts_by N B l (rank v) u) r ≡ Some x)
-      law = met (is_forward N l v) (λ u. fact_after B u (facts_by N B l (rank v) u) r) l.body source.0 source.1.edge.from (passes source.0 v source.1) x
+      law = met same_fact fact_is fact_self (is_forward N l v) (λ u. fact_after B u (facts_by N B l (rank v) u) r) l.body source.0 source.1.edge.from (passes source.0 v source.1) x
 
       same : (u : ℕ) → IsForwardIn N l.body u v → facts_by N B l (rank v) u ≡ found u
       same u f = stable (rank v) (suc (rank u)) u (rises u v f) (omega arith)

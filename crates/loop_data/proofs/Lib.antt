@@ -11,6 +11,7 @@ pub mod FlowEdges
 pub mod ValueFills
 pub mod ValuePlaces
 pub mod FactUnique
+pub mod Agreement
 pub mod FactsExist
 pub mod FromStarts
 pub mod SampleNest

@@ -64,7 +64,7 @@ cases_terms (x ∷ xs) (y ∷ ys) = go (cases_eq x.loc y.loc) (cases_int x.by y.
 abbrev form_from : ℤ → List EntryTerm → ℤ → ℤ → ℤ → LinearForm
 form_from a ts x y z = record { constant = a; terms = ts; first = x; second = y; third = z }
 
-cases_form : (f g : LinearForm) → (f ≡ g) ⊎ (f ≢ g)
+pub cases_form : (f g : LinearForm) → (f ≡ g) ⊎ (f ≢ g)
 cases_form f g = go (cases_int f.constant g.constant) (cases_terms f.terms g.terms) (cases_int f.first g.first) (cases_int f.second g.second) (cases_int f.third g.third)
   where
     go : (f.constant ≡ g.constant) ⊎ (f.constant ≢ g.constant) → (f.terms ≡ g.terms) ⊎ (f.terms ≢ g.terms)

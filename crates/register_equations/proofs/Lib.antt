@@ -14,3 +14,4 @@ pub mod Innermost
 pub mod DutyLists
 pub mod Equated
 pub mod Joined
+pub mod Exists

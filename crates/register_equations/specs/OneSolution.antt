@@ -7,7 +7,12 @@ use Rattle.loop_data.specs.Independent.{Role}
 use Rattle.loop_data.specs.LoopCode.{LoopCode}
 use Rattle.loop_data.specs.Equations.{AreForms}
 
--- two solutions of the equations of a nest agree at each of its words
+-- there is a solution, whatever roles the loops give the locations
+abbrev pub SomeSolutionLaw : Type 0
+SomeSolutionLaw = (N : Nest) (B : LoopCode) (roles : Level → ℕ → Role) → IsNest N
+    → (at : ℕ → ℕ → Option LinearForm) × AreForms N B roles at
+
+-- two solutions agree at each word of the nest
 abbrev pub OneSolutionLaw : Type 0
 OneSolutionLaw = (N : Nest) (B : LoopCode) (roles : Level → ℕ → Role) (one other : ℕ → ℕ → Option LinearForm) → IsNest N
     → AreForms N B roles one → AreForms N B roles other → (v r : ℕ) → Holds N.root v → one v r ≡ other v r
