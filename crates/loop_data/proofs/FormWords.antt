@@ -130,7 +130,7 @@ right_shift_short entry t v o (pos n) met a = go (nat_le n 30) refl met
     go false e met = λ f k. absurd (cc)
 right_shift_short entry t v o (negsuc n) met a = λ f k. absurd (cc)
 
-right_read : (entry : ℕ → ℤ) (t : ℕ → ℕ) (regs : List ℕ) (F : ℕ → Option LinearForm) (r : ℕ) → Right entry t (register regs r) (F r) → Right entry t (register regs r) (form_read F r)
+pub right_read : (entry : ℕ → ℤ) (t : ℕ → ℕ) (regs : List ℕ) (F : ℕ → Option LinearForm) (r : ℕ) → Right entry t (register regs r) (F r) → Right entry t (register regs r) (form_read F r)
 right_read entry t regs F r all = go (r == 0) refl
   where
     go : (b : Bool) → (r == 0) ≡ b → Right entry t (register regs r) (if b then Some (pure (pos 0)) else F r)

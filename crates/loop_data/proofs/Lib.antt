@@ -16,6 +16,7 @@ pub mod FactsExist
 pub mod FromStarts
 pub mod SampleNest
 pub mod Shorts
+pub mod Arounds
 pub mod NestVisits
 pub mod Strides
 pub mod FormWords

@@ -202,7 +202,7 @@ module _ (N : Nest) (B : LoopCode) (given : AreGiven N B) (l : Level) (within : 
         next = step_is (run s m) (walk s m) w.does (here_in m (omega arith)) (e.words m lt ∙ w.is);
       }
 
-  sound : (m : ℕ) → m ≤ n → AreWords (run s m).regs × AreBytes (run s m).memory
+  pub sound : (m : ℕ) → m ≤ n → AreWords (run s m).regs × AreBytes (run s m).memory
   sound zero le = (e.registers, e.bytes)
   sound (suc m) le =
       let a = sound m (omega arith) in

@@ -8,9 +8,10 @@ use Rattle.loop_data.specs.Nests.{Nest, has, In, levels, Among, Edge, IsPassTo, 
 use Rattle.loop_data.specs.Passes.{pass, passed, pass_in, passes}
 use Rattle.loop_data.specs.Equations.{plus_constant, with_step, Carries}
 use Rattle.loop_data.proofs.Tests.{eq_of, ne_of, is_eq, is_ne, true_or_false, yes_no}
+use Rattle.loop_data.proofs.Arounds.{time_at}
 use Rattle.loop_data.proofs.NestVisits.{Inside, edge_of, inside_less, header_or}
 use Rattle.register_equations.proofs.Solutions.{Words, some_writes, Steps, IsEntry, Solution}
-use Rattle.register_equations.proofs.Times.{time_at, Flat, around_or, exact_same, exact_more, exact_plus, exact_step, stride_step_same, stride_step_other}
+use Rattle.register_equations.proofs.Times.{Flat, around_or, exact_same, exact_more, exact_plus, exact_step, stride_step_same, stride_step_other}
 
 abbrev pub Values : Type 0
 Values = ℕ → ℕ → ℤ

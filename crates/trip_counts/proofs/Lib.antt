@@ -1,0 +1,5 @@
+pub mod Readings
+pub mod Numbers
+pub mod Told
+pub mod Exits
+pub mod Turns
