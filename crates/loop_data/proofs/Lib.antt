@@ -17,6 +17,7 @@ pub mod FromStarts
 pub mod SampleNest
 pub mod Shorts
 pub mod Arounds
+pub mod Innermost
 pub mod NestVisits
 pub mod Strides
 pub mod FormWords

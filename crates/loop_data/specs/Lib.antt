@@ -31,5 +31,6 @@ pub mod Flows
 pub mod Lookups
 pub mod Results
 pub mod Trips
+pub mod Accesses
 pub mod ValueStates
 pub mod EffectLaws

@@ -103,6 +103,12 @@ IsAround levels u depth place =
     × (l.depth ≡ depth))
     ⊎ (((l : Level) → Contains levels l → l.depth ≡ depth → ¬ Holds l u) × (place ≡ 0))
 
+-- the place among the levels of the loop of a depth round a word, if there is one
+abbrev pub IsAroundAt : List Level → ℕ → ℕ → Option ℕ → Type 0
+IsAroundAt levels u depth (Some i) =
+    (i < length levels) × ((l : Level) × (slice_index_or levels i l ≡ l) × Holds l u × (l.depth ≡ depth))
+IsAroundAt levels u depth None = (l : Level) → Contains levels l → l.depth ≡ depth → ¬ Holds l u
+
 -- a duty of the word at its address
 pub record IsDuty (levels : List Level) (B : LoopCode) (at : ℕ → ℕ → Option LinearForm) (d : Duty)
     : Type 0 where

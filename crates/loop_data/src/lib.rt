@@ -16,6 +16,8 @@ pub mod equations;
 pub mod flow;
 pub mod graph;
 pub mod laws;
+pub mod lookups;
+pub mod nesting;
 pub mod plans;
 pub mod shape;
 pub mod trips;

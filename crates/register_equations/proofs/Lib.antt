@@ -10,7 +10,6 @@ pub mod Placed
 pub mod Solving
 pub mod Ending
 pub mod Unique
-pub mod Innermost
 pub mod DutyLists
 pub mod Equated
 pub mod Joined

@@ -1,12 +1,12 @@
 -- The passes of the loops at a visit, and what one step of the walk makes of them.
-use Rattle.std.proofs.Common.{◌≡◌, ◌≢◌, ℕ, zero, suc, ◌<◌, ◌≤◌, ◌⊎◌, inl, inr, List, [], ◌∷◌, Bool, true, false, Option, Some, None, refl, ap, sym, ◌∙◌, subst, arith, if◌then◌else◌, ◌==◌, pos, ℤ, ◌+ℤ◌, ◌*ℤ◌}
+use Rattle.std.proofs.Common.{◌≡◌, ◌≢◌, ℕ, zero, suc, ◌<◌, ◌≤◌, ◌⊎◌, inl, inr, true, false, Option, Some, None, refl, ap, sym, ◌∙◌, arith, if◌then◌else◌, ◌==◌, pos, ℤ, ◌+ℤ◌, ◌*ℤ◌}
 use Rattle.std.proofs.lemmas.Int.{ints}
 use Rattle.rv64_decode.specs.declared.outcome.Next.TheVariants.{At}
 use Rattle.linear_forms.specs.Forms.{LinearForm, stride, exact}
 use Rattle.linear_forms.proofs.Sums.{times_plus, plus_times}
 use Rattle.loop_data.specs.declared.shape.Level.{Level}
-use Rattle.loop_data.specs.Nests.{Nest, has, In, levels, Among, around, IsNest}
-use Rattle.loop_data.specs.Passes.{pass, pass_in, passes}
+use Rattle.loop_data.specs.Nests.{Nest, has, levels, Among, around, IsNest}
+use Rattle.loop_data.specs.Passes.{pass, passes}
 use Rattle.loop_data.specs.Equations.{plus_constant, with_step}
 use Rattle.loop_data.specs.Runs.{State, run, walk, goes_at}
 use Rattle.loop_data.specs.Turns.{turn}

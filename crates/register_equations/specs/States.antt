@@ -101,12 +101,6 @@ pub record AreSolvedPoints (G : Graph) (levels : List Level) (classes : Classes)
   pub forms : (N : Nest) → IsNestOf G levels N
       → AreForms N (code_of G no_cells) (roles_by (code_of G no_cells) levels classes) (form_at points)
 
--- the place among the levels of the loop of a depth round a word, if there is one
-abbrev pub IsAroundAt : List Level → ℕ → ℕ → Option ℕ → Type 0
-IsAroundAt levels u depth (Some i) =
-    (i < length levels) × ((l : Level) × (slice_index_or levels i l ≡ l) × Holds l u × (l.depth ≡ depth))
-IsAroundAt levels u depth None = (l : Level) → Contains levels l → l.depth ≡ depth → ¬ Holds l u
-
 -- a duty of the word of a point
 pub record IsDutyOf (B : LoopCode) (levels : List Level) (p : Point) (d : Duty) : Type 0 where
   pub at : d.at ≡ p.at

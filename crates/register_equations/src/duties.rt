@@ -10,68 +10,14 @@ ghost use Rattle.loop_data.specs.FormRows.{duty};
 ghost use Rattle.loop_data.specs.Paths.{IsInOrder};
 ghost use Rattle.loop_data.specs.Results.{IsInnermost, IsAround};
 ghost use Rattle.register_equations.specs.Rows.{forms_in};
-ghost use Rattle.register_equations.specs.States.{IsAroundAt, IsDutyOf, IsDutyAdded, AreDutiesTo, point_at};
+ghost use Rattle.register_equations.specs.States.{IsDutyOf, IsDutyAdded, AreDutiesTo, point_at};
 
 use crate::rows::duty_of;
 use linear_forms::Form;
-use loop_data::flow::{instr_at, is_in};
+use loop_data::flow::instr_at;
+use loop_data::nesting::{innermost, places_in};
 use loop_data::{Duty, Graph, Level, Point};
 use std::alloc::{AllocError, Global};
-
-/// The place among the levels of the loop of a depth round a word.
-fn around(levels: &[Level], u: u64, depth: u32) -> Option<usize>
-    requires { All (λ l. IsStrictlyIncreasing l.body) levels.now }
-    ensures { IsAroundAt levels.now u depth result }
-{
-    for i in 0..levels.len() {
-        if levels[i].depth == depth && is_in(levels[i].body.as_slice(), u) {
-            return Some(i);
-        }
-    }
-    None
-}
-
-/// A place as it is kept, and 0 where there is none.
-fn place_in(levels: &[Level], u: u64, depth: u32) -> u32
-    requires bodies { All (λ l. IsStrictlyIncreasing l.body) levels.now }
-    requires few { length levels.now ≤ 4 }
-    ensures { IsAround levels.now u depth result }
-{
-    match around(levels, u, depth) {
-        Some(i) => i as u32,
-        None => 0,
-    }
-}
-
-/// The places of the loops of each depth round a word.
-fn places_in(levels: &[Level], u: u64) -> [u32; 3]
-    requires bodies { All (λ l. IsStrictlyIncreasing l.body) levels.now }
-    requires few { length levels.now ≤ 4 }
-    ensures { (k : ℕ) → k < 3 → IsAround levels.now u k (slice_index result k) }
-{
-    [
-        place_in(levels, u, 0),
-        place_in(levels, u, 1),
-        place_in(levels, u, 2),
-    ]
-}
-
-/// The place of the innermost loop round a word.
-fn innermost(levels: &[Level], u: u64) -> u32
-    requires bodies { All (λ l. IsStrictlyIncreasing l.body) levels.now }
-    requires few { length levels.now ≤ 4 }
-    requires depths { (l : Level) → Contains levels.now l → l.depth < 3 }
-    requires held { (l : Level) × Contains levels.now l × Holds l u }
-    ensures { IsInnermost levels.now u result }
-{
-    match around(levels, u, 2) {
-        Some(i) => i as u32,
-        None => match around(levels, u, 1) {
-            Some(i) => i as u32,
-            None => place_in(levels, u, 0),
-        },
-    }
-}
 
 /// The form whose values have to be numbers of 32 bits at the word of a point.
 fn duty_at(graph: &Graph, point: &Point) -> Option<Form>

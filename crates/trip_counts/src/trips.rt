@@ -7,10 +7,11 @@ ghost use Rattle.loop_data.specs.Lookups.{form_at};
 ghost use Rattle.loop_data.specs.Paths.{IsInOrder};
 ghost use Rattle.loop_data.specs.Trips.{trip_toward, or_else, trip_to_zero, trip_between, trip_read, trip_by, trip_of, turned, IsTripAt};
 
-use crate::forms::{is_still, moves_at, read, stride};
+use crate::forms::{is_still, moves_at, stride};
 use crate::relations::{approaches, is_signed, stay, turned};
 use linear_forms::Form;
 use loop_data::flow::{instr_at, is_in};
+use loop_data::lookups::form_read;
 use loop_data::{Equations, Graph, Level, LoopShape, Point, Relation, Trip};
 use rv64_decode::Instr;
 
@@ -115,8 +116,8 @@ fn trip_by(level: &Level, instr: Instr, points: &[Point]) -> Option<Trip>
         Instr::Branch { op, rs1, rs2, imm } => {
             let taken = level.exit.wrapping_add((imm as i64).cast_unsigned());
             let relation = stay(op, is_in(level.body.as_slice(), taken));
-            let first = read(points, level.exit, rs1);
-            let second = read(points, level.exit, rs2);
+            let first = form_read(points, level.exit, rs1);
+            let second = form_read(points, level.exit, rs2);
             trip_read(level.depth, relation, is_signed(op), first, second)
         }
         _ => None,

@@ -4,8 +4,7 @@ use Rattle.std.specs.List.{Contains}
 use Rattle.std.proofs.lemmas.Bool.{cases_eq}
 use Rattle.loop_data.specs.declared.shape.Level.{Level}
 use Rattle.loop_data.specs.Nests.{Holds}
-use Rattle.loop_data.specs.Results.{IsInnermost, IsAround}
-use Rattle.register_equations.specs.States.{IsAroundAt}
+use Rattle.loop_data.specs.Results.{IsInnermost, IsAround, IsAroundAt}
 
 pub inner_found : (ls : List Level) (u i d : ℕ) → IsAroundAt ls u d (Some i) → ((l : Level) → Contains ls l → Holds l u → l.depth ≤ d) → IsInnermost ls u i
 inner_found ls u i d a most =

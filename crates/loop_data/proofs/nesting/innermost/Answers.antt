@@ -1,6 +1,6 @@
 use Rattle.std.proofs.Common.{refl, arith}
-use Rattle.register_equations.proofs.Innermost.{inner_found, not_deep, inner_root}
-use Rattle.register_equations.proofs.duties.innermost.Goals as goal
+use Rattle.loop_data.proofs.Innermost.{inner_found, not_deep, inner_root}
+use Rattle.loop_data.proofs.nesting.innermost.Goals as goal
 
 pub returns-in-Some : goal.returns-in-Some
 returns-in-Some c = inner_found c.args.levels.now c.args.u c.in-Some.i 2 c.in-Some.ensures (λ l k h. let d = c.requires.depths l k in omega arith)

@@ -1,0 +1,2 @@
+pub mod AccessLists
+pub mod Listed

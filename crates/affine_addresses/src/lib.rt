@@ -1,0 +1,7 @@
+//! The accesses of a loop to memory, with the forms of their addresses.
+#![tactic(auto)]
+
+mod addresses;
+mod list;
+
+pub use list::{Irregular, accesses};
