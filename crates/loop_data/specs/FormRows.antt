@@ -64,7 +64,7 @@ form_limited (Some f) = limited f
 form_limited None = None
 
 -- what is left of a form by an instruction on words of 32 bits: a pure constant is sign-extended, and any
--- other stays, where its values are numbers of 32 bits
+-- other stays, where it keeps to the limits and its values are numbers of 32 bits
 abbrev pub form_short : Option LinearForm → Option LinearForm
 form_short (Some f) = if is_pure f then Some (pure (short_of f.constant)) else limited f
 form_short None = None

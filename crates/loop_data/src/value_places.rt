@@ -241,8 +241,8 @@ fn set_places(graph: &Graph, levels: &[Level], level: usize, flow: &Flow, points
     }
 }
 
-/// What is known of each location before each word of a loop of a nest, in address order, where the loop at
-/// this place among the levels began its turn with these values.
+/// What is known of each location before each word of the loop at this place among the levels of a nest, in
+/// address order: over the values that the locations have at that loop's header.
 pub fn value_pass(
     alloc: Global,
     shape: &LoopShape,

@@ -168,11 +168,11 @@ exit_told G ls nest words C at l s m n i tells exit =
     c : Bool
     c = taken x.op (register (run s m).regs x.rs1) (register (run s m).regs x.rs2)
 
-    e : Executes (nest_of G nest.root nest.inner) (code_of G C) s m
+    e : Executes nest.root (code_of G C) s m
     e = exit.executes
 
     are_words : AreWords (run s m).regs
-    are_words = (sound (nest_of G nest.root nest.inner) (code_of G C) given s m e m (omega arith)).0
+    are_words = (sound (nest_of G nest.root nest.inner) (code_of G C) given nest.root (λ y h. h) s m e m (omega arith)).0
 
     registers : HasRegisters (Branch x.op x.rs1 x.rs2 x.imm)
     registers =

@@ -50,7 +50,7 @@ turn_rises l s k (suc m) le = go (cases_lt k (suc m)) (λ lt. turn_rises l s k m
 record HasLeft (N : Nest) (B : LoopCode) (s : State) (m : ℕ) : Type 0 where
   pub visit : ℕ
   pub before : visit < m
-  pub executes : Executes N B s visit
+  pub executes : Executes N.root B s visit
   pub exit : (run s visit).next ≡ At N.root.exit
   pub out : goes_at (has N.root.body) (run s (suc visit)).next ≡ false
 
@@ -58,7 +58,7 @@ module _ (G : Graph) (ls : List Level) (nest : AreNest G ls) (words : AreProgram
   given : AreGiven (nest_of G nest.root nest.inner) (code_of G C)
   given = are_given G ls nest C words
 
-  begin : Executes (nest_of G nest.root nest.inner) (code_of G C) s 0
+  begin : Executes nest.root (code_of G C) s 0
   begin =
       record {
         start = follows.start;
@@ -68,7 +68,7 @@ module _ (G : Graph) (ls : List Level) (nest : AreNest G ls) (words : AreProgram
         words = λ k lt. absurd (omega arith);
       }
 
-  on : (m : ℕ) → Executes (nest_of G nest.root nest.inner) (code_of G C) s m → goes_at (has nest.root.body) (run s (suc m)).next ≡ true → Executes (nest_of G nest.root nest.inner) (code_of G C) s (suc m)
+  on : (m : ℕ) → Executes nest.root (code_of G C) s m → goes_at (has nest.root.body) (run s (suc m)).next ≡ true → Executes nest.root (code_of G C) s (suc m)
   on m e inside =
       record {
         start = e.start;
@@ -83,7 +83,7 @@ module _ (G : Graph) (ls : List Level) (nest : AreNest G ls) (words : AreProgram
       each k le (inr ge) = let q : suc m ≡ k = omega arith in subst (λ i. goes_at (has nest.root.body) (run s i).next ≡ true) q inside
 
   -- a visit after which the run is elsewhere is at the exit branch
-  leaving : (m v : ℕ) → Executes (nest_of G nest.root nest.inner) (code_of G C) s m → (run s (suc m)).next ≡ At v → goes_at (has nest.root.body) (run s (suc m)).next ≡ false → (run s m).next ≡ At nest.root.exit
+  leaving : (m v : ℕ) → Executes nest.root (code_of G C) s m → (run s (suc m)).next ≡ At v → goes_at (has nest.root.body) (run s (suc m)).next ≡ false → (run s m).next ≡ At nest.root.exit
   leaving m v e q out = go (walk s m == nest.root.exit) refl
     where
       at_here : (run s m).next ≡ At (walk s m)
@@ -105,38 +105,38 @@ module _ (G : Graph) (ls : List Level) (nest : AreNest G ls) (words : AreProgram
           absurd (yes_no _ inside (subst (λ x. goes_at (has nest.root.body) x ≡ false) q out))
 
   -- a run that still goes on has been in the root so far, or has left it
-  so_far : (m v : ℕ) → (run s m).next ≡ At v → Executes (nest_of G nest.root nest.inner) (code_of G C) s m ⊎ HasLeft (nest_of G nest.root nest.inner) (code_of G C) s m
+  so_far : (m v : ℕ) → (run s m).next ≡ At v → Executes nest.root (code_of G C) s m ⊎ HasLeft (nest_of G nest.root nest.inner) (code_of G C) s m
   so_far zero v q = inl begin
   so_far (suc m) v q = before (run s m).next refl (λ u f. so_far m u f)
     where
-      after : Executes (nest_of G nest.root nest.inner) (code_of G C) s m ⊎ HasLeft (nest_of G nest.root nest.inner) (code_of G C) s m
-          → Executes (nest_of G nest.root nest.inner) (code_of G C) s (suc m) ⊎ HasLeft (nest_of G nest.root nest.inner) (code_of G C) s (suc m)
+      after : Executes nest.root (code_of G C) s m ⊎ HasLeft (nest_of G nest.root nest.inner) (code_of G C) s m
+          → Executes nest.root (code_of G C) s (suc m) ⊎ HasLeft (nest_of G nest.root nest.inner) (code_of G C) s (suc m)
       after (inr h) = inr (record { visit = h.visit; before = let b = h.before in omega arith; executes = h.executes; exit = h.exit; out = h.out })
       after (inl e) = go (goes_at (has nest.root.body) (run s (suc m)).next) refl
         where
-          go : (b : Bool) → goes_at (has nest.root.body) (run s (suc m)).next ≡ b → Executes (nest_of G nest.root nest.inner) (code_of G C) s (suc m) ⊎ HasLeft (nest_of G nest.root nest.inner) (code_of G C) s (suc m)
+          go : (b : Bool) → goes_at (has nest.root.body) (run s (suc m)).next ≡ b → Executes nest.root (code_of G C) s (suc m) ⊎ HasLeft (nest_of G nest.root nest.inner) (code_of G C) s (suc m)
           go true f = inl (on m e f)
           go false f = inr (record { visit = m; before = omega arith; executes = e; exit = leaving m v e q f; out = f })
 
-      before : (x : Next) → (run s m).next ≡ x → ((u : ℕ) → (run s m).next ≡ At u → Executes (nest_of G nest.root nest.inner) (code_of G C) s m ⊎ HasLeft (nest_of G nest.root nest.inner) (code_of G C) s m)
-          → Executes (nest_of G nest.root nest.inner) (code_of G C) s (suc m) ⊎ HasLeft (nest_of G nest.root nest.inner) (code_of G C) s (suc m)
+      before : (x : Next) → (run s m).next ≡ x → ((u : ℕ) → (run s m).next ≡ At u → Executes nest.root (code_of G C) s m ⊎ HasLeft (nest_of G nest.root nest.inner) (code_of G C) s m)
+          → Executes nest.root (code_of G C) s (suc m) ⊎ HasLeft (nest_of G nest.root nest.inner) (code_of G C) s (suc m)
       before (At u) f later = after (later u f)
       before Call f later = let k = sym (step_call (run s m) f) ∙ q in absurd (cc)
       before (Faulting kind addr) f later = let k = sym (step_fault (run s m) kind addr f) ∙ q in absurd (cc)
 
   module _ (at : ℕ → ℕ → Option LinearForm) (n : ℕ) (tells : Tells G C at nest.root s n) (forms : FormsHold (nest_of G nest.root nest.inner) C at s n) where
-    told : (m : ℕ) → Executes (nest_of G nest.root nest.inner) (code_of G C) s m → (run s m).next ≡ At nest.root.exit → HoldsAt (nest_of G nest.root nest.inner) C at s m → StaysBelow nest.root s m (turn nest.root s m) n
+    told : (m : ℕ) → Executes nest.root (code_of G C) s m → (run s m).next ≡ At nest.root.exit → HoldsAt (nest_of G nest.root nest.inner) C at s m → StaysBelow nest.root s m (turn nest.root s m) n
     told m e q holds =
         turn_told G ls nest words C at s m n tells
         (record { executes = e; word = follows.words m (e.inside m (omega arith)); exit = ap pc_in q; holds = holds })
 
-    clash : (m : ℕ) → Executes (nest_of G nest.root nest.inner) (code_of G C) s m → turn nest.root s m < n → (run s m).next ≡ At nest.root.exit → goes_at (has nest.root.body) (run s (suc m)).next ≡ false → ⊥
+    clash : (m : ℕ) → Executes nest.root (code_of G C) s m → turn nest.root s m < n → (run s m).next ≡ At nest.root.exit → goes_at (has nest.root.body) (run s (suc m)).next ≡ false → ⊥
     clash m e lt q out = yes_no _ ((told m e q (forms m lt (e.inside m (omega arith)))).stays lt) out
 
     below : (m : ℕ) → turn nest.root s m < n → Leaves nest.root s m → ⊥
     below m lt leaves = go (so_far m nest.root.exit leaves.exit)
       where
-        go : Executes (nest_of G nest.root nest.inner) (code_of G C) s m ⊎ HasLeft (nest_of G nest.root nest.inner) (code_of G C) s m → ⊥
+        go : Executes nest.root (code_of G C) s m ⊎ HasLeft (nest_of G nest.root nest.inner) (code_of G C) s m → ⊥
         go (inl e) = clash m e lt leaves.exit leaves.out
         go (inr h) =
             let b = h.before in
@@ -146,7 +146,7 @@ module _ (G : Graph) (ls : List Level) (nest : AreNest G ls) (words : AreProgram
     stays : (m : ℕ) → turn nest.root s m ≡ n → (run s m).next ≡ At nest.root.exit → HoldsAt (nest_of G nest.root nest.inner) C at s m → Stays nest.root s n
     stays m t q holds = go (so_far m nest.root.exit q)
       where
-        go : Executes (nest_of G nest.root nest.inner) (code_of G C) s m ⊎ HasLeft (nest_of G nest.root nest.inner) (code_of G C) s m → Stays nest.root s n
+        go : Executes nest.root (code_of G C) s m ⊎ HasLeft (nest_of G nest.root nest.inner) (code_of G C) s m → Stays nest.root s n
         go (inl e) = record { at = m; number = t; leaves = record { exit = q; out = (told m e q holds).leaves t }; first = below }
         go (inr h) =
             let b = h.before in

@@ -28,7 +28,7 @@ pub record Tells (G : Graph) (C : CellMap) (at : ℕ → ℕ → Option LinearFo
 -- the forms hold
 pub record IsAtExit (N : Nest) (B : LoopCode) (at : ℕ → ℕ → Option LinearForm) (l : Level) (s : State) (m : ℕ)
     : Type 0 where
-  pub executes : Executes N B s m
+  pub executes : Executes N.root B s m
   pub word : instr (run s m) ≡ B.instr (walk s m)
   pub exit : walk s m ≡ l.exit
   pub holds : HoldsAt N B.cells at s m
