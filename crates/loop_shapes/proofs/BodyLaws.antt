@@ -16,7 +16,7 @@ use Rattle.loop_data.proofs.Ways.{stop}
 use Rattle.loop_data.proofs.Tests.{yes_no}
 use Rattle.loop_data.proofs.Steps.{leads_is, is_leads, contains_has}
 use Rattle.loop_data.proofs.FromStarts.{from_starts}
-use Rattle.loop_shapes.specs.Laws.{LiesIn, AreBodies, BodyLaw, ShapeLaw}
+use Rattle.loop_shapes.specs.Laws.{IsNestedIn, AreBodies, BodyLaw, ShapeLaw}
 use Rattle.loop_shapes.proofs.PathGraphs.{IsPath, InPathBody}
 use Rattle.loop_shapes.proofs.PathBodies.{has_head, before, passes, suffix, apart, meet, nested}
 use Rattle.loop_shapes.proofs.Bridge.{tests, to_path, avoids, to_body, from_body, from_reaches, to_closed, to_reached, word_in}
@@ -37,7 +37,7 @@ one_rises : (x : ℕ) → IsStrictlyIncreasing (x ∷ [])
 one_rises x k l = absurd (omega arith)
 
 module _ (G : Graph) (starts : AreFromStarts G) where
-  lies_in : (k h : ℕ) → k ≢ h → InBody G h k → LiesIn G k h
+  lies_in : (k h : ℕ) → k ≢ h → InBody G h k → IsNestedIn G k h
   lies_in k h ne b x i =
       record {
         source = b.source;
@@ -52,14 +52,14 @@ module _ (G : Graph) (starts : AreFromStarts G) where
       apart (tests G) h c.source k b.source (to_closed G h c.source starts c.closed) (to_closed G k b.source starts b.closed)
       (to_body G k b.source h b.part) (to_body G h c.source k c.part)
 
-  meeting : (h k x : ℕ) → InBody G h x → InBody G k x → LiesIn G k h ⊎ LiesIn G h k
+  meeting : (h k x : ℕ) → InBody G h x → InBody G k x → IsNestedIn G k h ⊎ IsNestedIn G h k
   meeting h k x b c = by (cases_eq h k)
     where
-      one : h ≢ k → InPathBody (tests G) h b.source k ⊎ InPathBody (tests G) k c.source h → LiesIn G k h ⊎ LiesIn G h k
+      one : h ≢ k → InPathBody (tests G) h b.source k ⊎ InPathBody (tests G) k c.source h → IsNestedIn G k h ⊎ IsNestedIn G h k
       one ne (inl i) = inl (lies_in k h (λ e. ne (sym e)) (record { source = b.source; closed = b.closed; part = from_body G h b.source k i }))
       one ne (inr i) = inr (lies_in h k ne (record { source = c.source; closed = c.closed; part = from_body G k c.source h i }))
 
-      by : (h ≡ k) ⊎ (h ≢ k) → LiesIn G k h ⊎ LiesIn G h k
+      by : (h ≡ k) ⊎ (h ≢ k) → IsNestedIn G k h ⊎ IsNestedIn G h k
       by (inl e) = inl (λ y i. subst (λ z. InBody G z y) (sym e) i)
       by (inr ne) =
           one ne

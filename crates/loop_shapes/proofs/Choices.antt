@@ -6,7 +6,7 @@ use Rattle.loop_data.specs.Sets.{IsListOf}
 use Rattle.loop_data.specs.Bodies.{IsHeader, InBody}
 use Rattle.loop_data.specs.Shape.{InNest}
 use Rattle.loop_shapes.specs.Gains.{Gained, HasAll}
-use Rattle.loop_shapes.specs.Outside.{IsOutside}
+use Rattle.loop_shapes.specs.Difference.{InDifference}
 use Rattle.loop_shapes.proofs.Gains.{Among, gained_all, gained_to, all_from_nothing}
 
 pub listed : (P : ℕ → Type 0) (all xs : List ℕ) → HasAll P all → IsListOf (Contains all) xs → IsListOf P xs
@@ -19,5 +19,5 @@ chosen P Q xs i all ys l same g o = listed Q all ys (all_from_nothing Q all (gai
     by : (z : ℕ) → Among (λ (x y : ℕ). (y ≡ x) × P x) xs z ↔ Q z
     by z = (λ a. (same z).0 (subst (Contains xs) (sym a.holds.0) a.among, subst P (sym a.holds.0) a.holds.1), λ q. record { from = z; among = ((same z).1 q).0; holds = (refl, ((same z).1 q).1) })
 
-pub chosen_outside : (xs ys : List ℕ) (i : ℕ) (all zs : List ℕ) → length xs ≤ i → Gained (Among (λ (x z : ℕ). (z ≡ x) × ¬ Contains ys x) (take i xs)) [] all → IsListOf (Contains all) zs → IsListOf (IsOutside xs ys) zs
-chosen_outside xs ys i all zs l g o = chosen (λ x. ¬ Contains ys x) (IsOutside xs ys) xs i all zs l (λ x. (λ p. record { among = p.0; absent = p.1 }, λ q. (q.among, q.absent))) g o
+pub chosen_outside : (xs ys : List ℕ) (i : ℕ) (all zs : List ℕ) → length xs ≤ i → Gained (Among (λ (x z : ℕ). (z ≡ x) × ¬ Contains ys x) (take i xs)) [] all → IsListOf (Contains all) zs → IsListOf (InDifference xs ys) zs
+chosen_outside xs ys i all zs l g o = chosen (λ x. ¬ Contains ys x) (InDifference xs ys) xs i all zs l (λ x. (λ p. record { among = p.0; absent = p.1 }, λ q. (q.among, q.absent))) g o

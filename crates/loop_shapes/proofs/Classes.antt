@@ -21,7 +21,7 @@ use Rattle.loop_shapes.specs.declared.kind.Kind.TheVariants.{Calls, Asks, JumpsA
 use Rattle.loop_data.specs.Paths.{addresses, IsInOrder, IsWord}
 use Rattle.loop_data.specs.Instructions.{Means, IsPaired}
 use Rattle.loop_shapes.specs.Kinds.{HasKind}
-use Rattle.loop_shapes.specs.Class.{class_of, HasClass, HasPairing, does_of}
+use Rattle.loop_shapes.specs.Class.{class_of, IsWordOfClass, HasPairing, does_of}
 use Rattle.loop_shapes.proofs.Rows.{same_place, address_at}
 
 upper_from : (i : Option Instr) (r : ℕ) → class_of i ≡ UpperPc r → (imm : ℤ) × (i ≡ Some (Upper Auipc r imm))
@@ -99,13 +99,13 @@ word_of_meaning G x i m =
     subst (IsWord G) (sym (address_at G m.among.0 m.word l m.among.2) ∙ m.at) (Contains-get_or (addresses G) m.among.0 0 (omega arith))
 
 module _ (G : Graph) (up : IsInOrder G) (x : ℕ) where
-  class_unique : (class : Class) (i : Option Instr) → HasClass G x class → Means G x i → class_of i ≡ class
+  class_unique : (class : Class) (i : Option Instr) → IsWordOfClass G x class → Means G x i → class_of i ≡ class
   class_unique class i h m = ap class_of (sym m.means) ∙ ap (λ (w : Word). class_of (decoded w.bits)) (same_word G up m.word h.word m.among h.among (m.at ∙ sym h.at)) ∙ h.is
 
-  means_as : (class : Class) (i : Option Instr) (h : HasClass G x class) → decoded h.word.bits ≡ i → Means G x i
+  means_as : (class : Class) (i : Option Instr) (h : IsWordOfClass G x class) → decoded h.word.bits ≡ i → Means G x i
   means_as class i h e = record { word = h.word; among = h.among; at = h.at; means = e }
 
-  kind_from : (k : Kind) (class : Class) (paired : Bool) → HasClass G x class → HasPairing G x class paired → does_of k class paired ≡ true → HasKind k G x
+  kind_from : (k : Kind) (class : Class) (paired : Bool) → IsWordOfClass G x class → HasPairing G x class paired → does_of k class paired ≡ true → HasKind k G x
   kind_from Calls (Jump rd) paired h p e =
       let i = jump_from (decoded h.word.bits) rd h.is in
       inl (record { rd = rd; imm = i.0; links = λ z. links rd z e; means = means_as (Jump rd) (Some (Jal rd i.0)) h i.1 })
@@ -166,7 +166,7 @@ module _ (G : Graph) (up : IsInOrder G) (x : ℕ) where
   kind_from Branches (UpperPc rd) paired h p e = absurd (false≢true e)
   kind_from Branches Other paired h p e = absurd (false≢true e)
 
-  kind_to : (k : Kind) (class : Class) (paired : Bool) → HasClass G x class → HasPairing G x class paired → HasKind k G x → does_of k class paired ≡ true
+  kind_to : (k : Kind) (class : Class) (paired : Bool) → IsWordOfClass G x class → HasPairing G x class paired → HasKind k G x → does_of k class paired ≡ true
   kind_to Calls class paired h p (inl j) =
       let e = class_unique class (Some (Jal j.rd j.imm)) h j.means in
       subst (λ (q : Class). does_of Calls q paired ≡ true) e (links j.rd j.links)
@@ -193,7 +193,7 @@ module _ (G : Graph) (up : IsInOrder G) (x : ℕ) where
   kind_to IsNothing class paired h p m = subst (λ (q : Class). does_of IsNothing q paired ≡ true) (class_unique class None h m) refl
   kind_to Branches class paired h p b = subst (λ (q : Class). does_of Branches q paired ≡ true) (class_unique class (Some (Branch b.op b.rs1 b.rs2 b.imm)) h b.means) refl
 
-  pub kind_says : (k : Kind) (class : Class) (paired b : Bool) → HasClass G x class → HasPairing G x class paired → b ≡ does_of k class paired → IsTrue b ↔ HasKind k G x
+  pub kind_says : (k : Kind) (class : Class) (paired b : Bool) → IsWordOfClass G x class → HasPairing G x class paired → b ≡ does_of k class paired → IsTrue b ↔ HasKind k G x
   kind_says k class paired b h p e = (λ t. kind_from k class paired h p (sym e ∙ t), λ q. e ∙ kind_to k class paired h p q)
 
   pub no_kind : (k : Kind) → ¬ IsWord G x → IsTrue false ↔ HasKind k G x
@@ -207,7 +207,7 @@ module _ (G : Graph) (up : IsInOrder G) (x : ℕ) where
       a_word IsNothing m = word_of_meaning G x None m
       a_word Branches b = word_of_meaning G x (Some (Branch b.op b.rs1 b.rs2 b.imm)) b.means
 
-pub paired_by : (G : Graph) → IsInOrder G → (x r : ℕ) (o : Option Class) → 4 ≤ x → IfSome o (HasClass G (x - 4)) → IfNone o (¬ IsWord G (x - 4)) → (o ≡ Some (UpperPc r)) ↔ IsPaired G x r
+pub paired_by : (G : Graph) → IsInOrder G → (x r : ℕ) (o : Option Class) → 4 ≤ x → IfSome o (IsWordOfClass G (x - 4)) → IfNone o (¬ IsWord G (x - 4)) → (o ≡ Some (UpperPc r)) ↔ IsPaired G x r
 paired_by G up x r (Some class) le found none = (there, back)
   where
     there : Some class ≡ Some (UpperPc r) → IsPaired G x r

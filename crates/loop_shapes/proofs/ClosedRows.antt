@@ -7,12 +7,12 @@ use Rattle.std.proofs.lemmas.Bool.{cases_lt}
 use Rattle.std.specs.declared.vec.Vec.{Vec}
 use Rattle.std.specs.declared.alloc.Global.{Global}
 use Rattle.loop_data.specs.declared.graph.Graph.{Graph}
-use Rattle.loop_shapes.specs.Rows.{rows, items_of}
-use Rattle.loop_shapes.specs.Places.{HasSources, in_row, count_of, at}
+use Rattle.loop_shapes.specs.Places.{HasPredecessors, count_of, at}
 use Rattle.loop_data.specs.Bodies.{IsClosed}
 use Rattle.loop_shapes.specs.Net.{AreClosedOf, HasTriedEdge}
 use Rattle.loop_shapes.proofs.Rows.{none_in, contains_more}
 use Rattle.loop_shapes.specs.Lines.{IsRowOf}
+use Rattle.loop_data.specs.Flows.{items_of, row_at, rows}
 
 pub tried_open : (G : Graph) (h u : ℕ) (xs : List ℕ) → (IsClosed G (at G h) (at G u) → ⊥) → HasTriedEdge G h u xs xs
 tried_open G h u xs open_edge = record { each = λ i c. inl c; kept = λ i c. c; every = λ c. absurd (open_edge c) }
@@ -38,24 +38,24 @@ closed_more G h i xs old new l a t = record { each = λ j c. one j (t.each j c);
     other j q (inl c) = t.kept j (a.every j c q)
     other j q (inr e) = subst (Contains new) (sym e) (t.every (subst (λ (z : ℕ). IsClosed G (at G h) (at G z)) e q))
 
-pub closed_all : (G : Graph) (rows : List (List ℕ)) → HasSources G (count_of G) rows → (h : ℕ) → h < count_of G → (i : ℕ) (places : List ℕ) → length (in_row rows h) ≤ i → AreClosedOf G h (take i (in_row rows h)) places → IsRowOf G (IsClosed G) h places
+pub closed_all : (G : Graph) (rows : List (List ℕ)) → HasPredecessors G (count_of G) rows → (h : ℕ) → h < count_of G → (i : ℕ) (places : List ℕ) → length (row_at rows h) ≤ i → AreClosedOf G h (take i (row_at rows h)) places → IsRowOf G (IsClosed G) h places
 closed_all G rows s h lh i places l a = record { each = λ j c. let r = all.each j c in ((s.each h j r.0).0, r.1); every = λ j m c. all.every j (s.every h j m lh c.edge) c }
   where
-    all : AreClosedOf G h (in_row rows h) places
-    all = subst (λ (ys : List ℕ). AreClosedOf G h ys places) (take_all i (in_row rows h) l) a
+    all : AreClosedOf G h (row_at rows h) places
+    all = subst (λ (ys : List ℕ). AreClosedOf G h ys places) (take_all i (row_at rows h) l) a
 
 -- a row more
-pub rows_more : (P : ℕ → List ℕ → Type 0) (old : List (Vec ℕ Global)) (v : Vec ℕ Global) (n : ℕ) → (length (rows old) ≡ n) × ((j : ℕ) → j < n → P j (in_row (rows old) j)) → P n v.items → (length (rows (old ++ v ∷ [])) ≡ n + 1) × ((j : ℕ) → j < n + 1 → P j (in_row (rows (old ++ v ∷ [])) j))
-rows_more P old v n a p = (ap length push ∙ length_push (rows old) v.items ∙ ap (λ m. m + 1) a.0, λ j l. subst (λ (q : List (List ℕ)). P j (in_row q j)) (sym push) (by j (cases_lt j n) l))
+pub rows_more : (P : ℕ → List ℕ → Type 0) (old : List (Vec ℕ Global)) (v : Vec ℕ Global) (n : ℕ) → (length (rows old) ≡ n) × ((j : ℕ) → j < n → P j (row_at (rows old) j)) → P n v.items → (length (rows (old ++ v ∷ [])) ≡ n + 1) × ((j : ℕ) → j < n + 1 → P j (row_at (rows (old ++ v ∷ [])) j))
+rows_more P old v n a p = (ap length push ∙ length_push (rows old) v.items ∙ ap (λ m. m + 1) a.0, λ j l. subst (λ (q : List (List ℕ)). P j (row_at q j)) (sym push) (by j (cases_lt j n) l))
   where
     push : rows (old ++ v ∷ []) ≡ rows old ++ v.items ∷ []
     push = map_push items_of old v
 
-    by : (j : ℕ) → (j < n) ⊎ (n ≤ j) → j < n + 1 → P j (in_row (rows old ++ v.items ∷ []) j)
+    by : (j : ℕ) → (j < n) ⊎ (n ≤ j) → j < n + 1 → P j (row_at (rows old ++ v.items ∷ []) j)
     by j (inl l) m =
         let c = a.0 in
         subst (P j) (sym (get_or_append_left (rows old) (v.items ∷ []) [] j (omega arith))) (a.1 j l)
     by j (inr l) m =
         let e : j ≡ n = omega arith in
         let c = a.0 in
-        subst (λ (q : ℕ). P q (in_row (rows old ++ v.items ∷ []) q)) (sym e) (subst (P n) (sym (get_or_push (rows old) v.items [] n c)) p)
+        subst (λ (q : ℕ). P q (row_at (rows old ++ v.items ∷ []) q)) (sym e) (subst (P n) (sym (get_or_push (rows old) v.items [] n c)) p)

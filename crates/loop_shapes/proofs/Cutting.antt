@@ -10,10 +10,11 @@ use Rattle.loop_data.specs.Bodies.{IsClosed}
 use Rattle.loop_shapes.specs.Open.{IsOpenStep}
 use Rattle.loop_shapes.specs.Numbers.{AreNodes}
 use Rattle.loop_shapes.specs.Open.{IsCut, AreCutBelow, AreCut, AreOpen}
-use Rattle.loop_shapes.specs.Places.{in_row, count_of, at}
+use Rattle.loop_shapes.specs.Places.{count_of, at}
 use Rattle.loop_shapes.proofs.Rows.{none_in, contains_more}
 use Rattle.loop_shapes.proofs.Parts.{row_within}
 use Rattle.loop_shapes.specs.Lines.{AreRowsOf}
+use Rattle.loop_data.specs.Flows.{row_at}
 
 get_same : (xs : List Successors) (i : ℕ) (v : Successors) → i < length xs → slice_get (set xs i v) i ≡ Some v
 get_same [] i v l = absurd (omega arith)
@@ -91,21 +92,21 @@ cut_whole to from k old new l c = subst (λ (xs : List ℕ). IsCut to xs old new
 pub below_start : (rows : List (List ℕ)) (old new : List Successors) → new ≡ old → AreCutBelow rows 0 old new
 below_start rows old new e = subst (AreCutBelow rows 0 old) (sym e) (record { count = refl; each = λ a b. (λ i. (i, λ m. let l = m.0 in omega arith), λ p. p.0) })
 
-pub below_next : (rows : List (List ℕ)) (n : ℕ) (old mid new : List Successors) → AreCutBelow rows n old mid → IsCut n (in_row rows n) mid new → AreCutBelow rows (n + 1) old new
+pub below_next : (rows : List (List ℕ)) (n : ℕ) (old mid new : List Successors) → AreCutBelow rows n old mid → IsCut n (row_at rows n) mid new → AreCutBelow rows (n + 1) old new
 below_next rows n old mid new x c = record { count = c.count ∙ x.count; each = λ a b. (there a b, back a b) }
   where
-    there : (a b : ℕ) → IsEdge new a b → IsEdge old a b × ¬ ((b < n + 1) × Contains (in_row rows b) a)
+    there : (a b : ℕ) → IsEdge new a b → IsEdge old a b × ¬ ((b < n + 1) × Contains (row_at rows b) a)
     there a b i =
         let p = (c.each a b).0 i in
         let q = (x.each a b).0 p.0 in
         (q.0, λ m. by p.1 q.1 m.0 m.1 (cases_lt b n))
       where
-        by : ¬ ((b ≡ n) × Contains (in_row rows n) a) → ¬ ((b < n) × Contains (in_row rows b) a) → b < n + 1 → Contains (in_row rows b) a → (b < n) ⊎ (n ≤ b) → ⊥
+        by : ¬ ((b ≡ n) × Contains (row_at rows n) a) → ¬ ((b < n) × Contains (row_at rows b) a) → b < n + 1 → Contains (row_at rows b) a → (b < n) ⊎ (n ≤ b) → ⊥
         by f g l m (inl k) = g (k, m)
-        by f g l m (inr k) = let e : b ≡ n = omega arith in f (e, subst (λ (z : ℕ). Contains (in_row rows z) a) e m)
+        by f g l m (inr k) = let e : b ≡ n = omega arith in f (e, subst (λ (z : ℕ). Contains (row_at rows z) a) e m)
 
-    back : (a b : ℕ) → IsEdge old a b × ¬ ((b < n + 1) × Contains (in_row rows b) a) → IsEdge new a b
-    back a b p = (c.each a b).1 ((x.each a b).1 (p.0, λ m. let l = m.0 in p.1 (omega arith, m.1)), λ m. let e = m.0 in p.1 (omega arith, subst (λ (z : ℕ). Contains (in_row rows z) a) (sym m.0) m.1))
+    back : (a b : ℕ) → IsEdge old a b × ¬ ((b < n + 1) × Contains (row_at rows b) a) → IsEdge new a b
+    back a b p = (c.each a b).1 ((x.each a b).1 (p.0, λ m. let l = m.0 in p.1 (omega arith, m.1)), λ m. let e = m.0 in p.1 (omega arith, subst (λ (z : ℕ). Contains (row_at rows z) a) (sym m.0) m.1))
 
 pub below_whole : (rows : List (List ℕ)) (n : ℕ) (old new : List Successors) → length rows ≤ n → AreCutBelow rows n old new → AreCut rows old new
 below_whole rows n old new l x = record { count = x.count; each = λ a b. (λ i. let p = (x.each a b).0 i in (p.0, λ m. let k = row_within rows b a m in p.1 (omega arith, m)), λ p. (x.each a b).1 (p.0, λ m. p.1 m.1)) }

@@ -9,7 +9,7 @@ use Rattle.loop_data.specs.Sets.{IsListOf, IsLeast, HasAtMost}
 use Rattle.loop_data.specs.Bodies.{InPart, ReachesPast, IsHeader}
 use Rattle.loop_shapes.specs.Gains.{HasAll}
 use Rattle.loop_shapes.specs.Edges.{IsEdgeBetween}
-use Rattle.loop_shapes.specs.Outside.{IsOutside}
+use Rattle.loop_shapes.specs.Difference.{InDifference}
 use Rattle.loop_shapes.specs.Entry.{IsLeastEdge, IsStartAmong}
 use Rattle.loop_data.specs.Listed.{InCore, Enters, StartsIn, IsLeastEntrance, IsLeastStart}
 use Rattle.loop_data.proofs.Ways.{stop, step, backward, forward, along, wider, starts_in, ends_in}
@@ -80,7 +80,7 @@ is_in xs x = by (find xs)
 
 module _ (G : Graph) (g u : ℕ) (words core others inner : List ℕ) (entering : List (ℕ × ℕ)) (edge : Leads G u g)
     (w : IsListOf (InPart G g u) words) (co : HasAll (Reaches (Leads G) (Contains words) g) core)
-    (ot : IsListOf (IsOutside words core) others) (inn : IsListOf (IsOutside core (g ∷ [])) inner)
+    (ot : IsListOf (InDifference words core) others) (inn : IsListOf (InDifference core (g ∷ [])) inner)
     (en : HasAll (IsEdgeBetween G others inner true) entering) where
   to_core : (x : ℕ) → Contains core x → InCore G g u x
   to_core x c = wider (InPart G g u) w.each g x (co.each x c)

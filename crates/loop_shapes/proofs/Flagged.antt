@@ -14,11 +14,12 @@ use Rattle.loop_shapes.specs.Kinds.{HasKind}
 use Rattle.loop_data.specs.Sets.{IsLeast, HasAtMost}
 use Rattle.loop_shapes.specs.Net.{AreAt}
 use Rattle.loop_shapes.specs.Marks.{IsFirstAt, lesser_of}
-use Rattle.loop_shapes.specs.Outer.{IsSet, IsUnsound}
+use Rattle.loop_shapes.specs.Outer.{IsUnsound}
 use Rattle.loop_shapes.proofs.Rows.{none_in, contains_more}
 use Rattle.loop_shapes.proofs.ListedRows.{places_rise}
 use Rattle.loop_shapes.proofs.Parts.{contains_map}
 use Rattle.loop_shapes.proofs.Unsound.{misshapen_is}
+use Rattle.loop_data.specs.Flows.{IsSet}
 
 abbrev pub IsSetAmong : List Bool → List ℕ → ℕ → Type 0
 IsSetAmong flags found i = Contains found i × IsSet flags i

@@ -195,12 +195,12 @@ part_large G h u found false e p = p
 
 -- the header is found round the exit where a way leads from it to the back edge
 pub passed_by : (G : Graph) → IsInOrder G → (header back exit : ℕ) (found : List ℕ) (b : Bool) → IsPart G exit back found → header < count_of G → exit < count_of G → exit ≢ header → (b ≡ true) ↔ Contains found header → (not b ≡ true) ↔ (¬ ReachesPast G (at G exit) (at G header) (at G back))
-passed_by G up header back exit found b p lh le ne says = (λ t r. no b t (says.1 (there r)), λ none. yes b (λ t. none (back_way (p.each header (says.0 t)).1)))
+passed_by G up header back exit found b p lh le ne says = (λ t r. no b t (says.1 (there r)), λ none. yes b (λ t. none (back_way (p.1.each header (says.0 t)).1)))
   where
     there : ReachesPast G (at G exit) (at G header) (at G back) → Contains found header
     there r =
-        let m = p.every (at G header) (inr r) in
-        subst (Contains found) (same_place (addresses G) up m.place header (p.each m.place m.among).0 lh m.is) m.among
+        let m = p.1.every (at G header) (inr r) in
+        subst (Contains found) (same_place (addresses G) up m.place header (p.1.each m.place m.among).0 lh m.is) m.among
 
     back_way : InPart G (at G exit) (at G back) (at G header) → ReachesPast G (at G exit) (at G header) (at G back)
     back_way (inl e) = absurd (ne (same_place (addresses G) up exit header le lh (sym e)))

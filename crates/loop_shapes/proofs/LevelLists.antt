@@ -7,7 +7,7 @@ use Rattle.loop_data.specs.declared.graph.Graph.{Graph}
 use Rattle.loop_data.specs.declared.shape.Level.{Level}
 use Rattle.loop_data.specs.Sets.{IsListOf}
 use Rattle.loop_data.specs.Shape.{InNest}
-use Rattle.loop_shapes.specs.Outside.{IsOutside}
+use Rattle.loop_shapes.specs.Difference.{InDifference}
 use Rattle.loop_data.specs.declared.shape.LoopShape.{LoopShape}
 use Rattle.loop_data.specs.declared.verdict.Verdict.TheVariants.{Limit}
 use Rattle.loop_data.specs.Bodies.{IsHeader}
@@ -34,7 +34,7 @@ level_more G h inner i old new v li e f l a =
     let p = level_push G h old new v (get_or inner i 0) (h ∷ take i inner) e f l a in
     (p.0 ∙ ap (λ (q : List ℕ). h ∷ q) (sym (take_more inner i 0 li)), p.1)
 
-pub levels_by : (G : Graph) (h : ℕ) (nest inner : List ℕ) (i : ℕ) (all : List Level) → IsListOf (InNest G h) nest → IsListOf (IsOutside nest (h ∷ [])) inner → length inner ≤ i → (map header_of all ≡ h ∷ take i inner) × All (IsLevel G h) all → AreLevels G h all
+pub levels_by : (G : Graph) (h : ℕ) (nest inner : List ℕ) (i : ℕ) (all : List Level) → IsListOf (InNest G h) nest → IsListOf (InDifference nest (h ∷ [])) inner → length inner ≤ i → (map header_of all ≡ h ∷ take i inner) × All (IsLevel G h) all → AreLevels G h all
 levels_by G h nest inner i all is out l a = record { inner = inner; are_inner = inner_by G h nest inner is out; headers = a.0 ∙ ap (λ (q : List ℕ). h ∷ q) (take_all i inner l); each = a.1 }
 
 -- a nest past the limits, and one within them

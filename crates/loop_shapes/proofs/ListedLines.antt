@@ -19,7 +19,7 @@ use Rattle.loop_shapes.proofs.Parts.{place_of_source, contains_map}
 
 -- the words at the places found are at most 256
 pub small_by : (G : Graph) (h u : ℕ) (found : List ℕ) → IsPart G h u found → HasAtMost 256 (InPart G (at G h) (at G u))
-small_by G h u found p = record { members = map (at G) found; bound = subst (λ n. n ≤ 256) (sym (length-map found (at G))) p.bound; all = λ x q. let a = p.every x q in contains_map (at G) found a.place x a.among a.is }
+small_by G h u found p = record { members = map (at G) found; bound = subst (λ n. n ≤ 256) (sym (length-map found (at G))) p.0; all = λ x q. let a = p.1.every x q in contains_map (at G) found a.place x a.among a.is }
 
 pub no_edges : (G : Graph) (h : ℕ) (row : List ℕ) → IsRowOf G (IsListed G) h row → length row ≡ 0 → (u : ℕ) → ¬ IsListed G (at G h) u
 no_edges G h row r z u l =

@@ -6,7 +6,7 @@ use Rattle.std.proofs.lemmas.Bool.{cases_eq, cases_lt}
 use Rattle.std.proofs.lemmas.List.{get_or-set_same, get_or-set_other, length-set, take_all}
 use Rattle.loop_data.specs.declared.graph.Graph.{Graph}
 use Rattle.loop_data.specs.Paths.{addresses, IsInOrder, Leads}
-use Rattle.loop_shapes.specs.Places.{HasSources, count_of, at, in_row}
+use Rattle.loop_shapes.specs.Places.{HasPredecessors, count_of, at}
 use Rattle.loop_data.specs.Sets.{IsListOf}
 use Rattle.loop_data.specs.Bodies.{IsHeader, InBody}
 use Rattle.loop_shapes.specs.Numbers.{AreNumbers}
@@ -18,6 +18,7 @@ use Rattle.loop_data.proofs.Lists.{rises, from_in}
 use Rattle.loop_shapes.proofs.Rows.{none_in, alone, same_place, contains_more}
 use Rattle.loop_shapes.proofs.Parts.{place_of_word, word_at, row_within}
 use Rattle.loop_shapes.proofs.Gains.{Among, gained_all, all_from_nothing}
+use Rattle.loop_data.specs.Flows.{row_at}
 
 -- places in the order of their addresses
 pub places_rise : (G : Graph) → IsInOrder G → (i j : ℕ) → i < count_of G → j < count_of G → (i ≤ j) ↔ (at G i ≤ at G j)
@@ -40,7 +41,7 @@ none_listed G g row e h = subst (IsRowOf G (IsListed G) g) (sym e) (record { eac
 abbrev pub Chosen : Graph → List ℕ → ℕ → ℕ → ℕ → Type 0
 Chosen G numbers g x z = (z ≡ x) × ((g ≤ x) × ((get_or numbers g 0 ≡ get_or numbers x 0) × ¬ AreShared G (at G g) (at G x)))
 
-pub listed_by : (G : Graph) → IsInOrder G → (rows : List (List ℕ)) → HasSources G (count_of G) rows → (numbers : List ℕ) → AreNumbers G numbers → (g : ℕ) → g < count_of G → ¬ IsHeader G (at G g) → (xs : List ℕ) → xs ≡ in_row rows g → (i : ℕ) → length xs ≤ i → (row : List ℕ) → Gained (Among (Chosen G numbers g) (take i xs)) [] row → IsRowOf G (IsListed G) g row
+pub listed_by : (G : Graph) → IsInOrder G → (rows : List (List ℕ)) → HasPredecessors G (count_of G) rows → (numbers : List ℕ) → AreNumbers G numbers → (g : ℕ) → g < count_of G → ¬ IsHeader G (at G g) → (xs : List ℕ) → xs ≡ row_at rows g → (i : ℕ) → length xs ≤ i → (row : List ℕ) → Gained (Among (Chosen G numbers g) (take i xs)) [] row → IsRowOf G (IsListed G) g row
 listed_by G up rows s numbers n g lg no_loop xs same i l row got = record { each = each; every = every }
   where
     all : HasAll (Among (Chosen G numbers g) xs) row

@@ -10,9 +10,10 @@ use Rattle.loop_data.specs.Sets.{HasAtMost}
 use Rattle.loop_data.specs.Shape.{HasShape, IsForward, IsInner, IsOnCycle, IsShaped}
 use Rattle.loop_data.specs.Starts.{AreFromStarts}
 use Rattle.loop_data.proofs.Ways.{stop, step, backward, ends_in}
-use Rattle.loop_shapes.specs.Outer.{AreKnown, IsAcyclic, IsClean, IsSet, IsSound, IsUnder, IsUnsound}
+use Rattle.loop_shapes.specs.Outer.{AreKnown, IsAcyclic, IsClean, IsSound, IsUnder, IsUnsound}
 use Rattle.loop_shapes.specs.Places.{at, count_of}
 use Rattle.loop_shapes.proofs.Nesting.{within}
+use Rattle.loop_data.specs.Flows.{IsSet}
 
 module _ (G : Graph) (all : AreFromStarts G) (flags : List Bool) (h : ℕ) (u : IsUnder G flags h) where
   outer : IsHeader G h → InBody G (at G u.place) h

@@ -9,14 +9,15 @@ use Rattle.loop_data.specs.declared.graph.Graph.{Graph}
 use Rattle.loop_data.specs.Paths.{addresses, IsInOrder, IsWord, Leads, Reaches}
 use Rattle.loop_data.specs.Sets.{HasAtMost}
 use Rattle.loop_shapes.specs.Sets.{AreDifferent, HasOver}
-use Rattle.loop_shapes.specs.Places.{HasSources, AreFlags, in_row, count_of, at}
+use Rattle.loop_shapes.specs.Places.{HasPredecessors, AreFlags, count_of, at}
 use Rattle.loop_data.specs.Bodies.{ReachesPast, InPart, IsClosed, IsHeader, InBody}
-use Rattle.loop_shapes.specs.Search.{RowLeads, InPlaces, HasSearched, AreWithin}
-use Rattle.loop_shapes.specs.Net.{IsAmong, AreAt, IsPart, HasPart, HasBody, IsOnlyEntry}
+use Rattle.loop_shapes.specs.Search.{RowLeads, InPlaces, HasSearched}
+use Rattle.loop_shapes.specs.Net.{IsAmong, AreFewAt, HasFew, IsPart, HasPart, HasBody, IsOnlyEntry}
 use Rattle.loop_data.proofs.Ways.{stop, step, backward, ends_in}
 use Rattle.loop_data.proofs.Lists.{from_in, no_longer, apart_from_places}
 use Rattle.loop_shapes.proofs.Rows.{alone, same_place, address_at, none_in}
 use Rattle.loop_shapes.specs.Lines.{IsRowOf}
+use Rattle.loop_data.specs.Flows.{AreRowsWithin, row_at}
 
 -- a set with more than n members has not at most n
 pub over_not_at_most : (n : ℕ) (P : ℕ → Type 0) → HasOver n P → HasAtMost n P → ⊥
@@ -45,7 +46,7 @@ pub word_at : (G : Graph) (i : ℕ) → i < count_of G → IsWord G (at G i)
 word_at G i l = Contains-get_or (addresses G) i 0 l
 
 -- a row that has a number is there
-pub row_within : (rows : List (List ℕ)) (j i : ℕ) → Contains (in_row rows j) i → j < length rows
+pub row_within : (rows : List (List ℕ)) (j i : ℕ) → Contains (row_at rows j) i → j < length rows
 row_within rows j i c = by (cases_lt j (length rows))
   where
     by : (j < length rows) ⊎ (length rows ≤ j) → j < length rows
@@ -61,8 +62,8 @@ record ReachesOneAt (G : Graph) (h : ℕ) (us : List ℕ) (x : ℕ) : Type 0 whe
 abbrev InParts : Graph → ℕ → List ℕ → ℕ → Type 0
 InParts G h us x = (x ≡ at G h) ⊎ ReachesOneAt G h us x
 
-module _ (G : Graph) (up : IsInOrder G) (rows : List (List ℕ)) (s : HasSources G (count_of G) rows) where
-  pub within : AreWithin rows
+module _ (G : Graph) (up : IsInOrder G) (rows : List (List ℕ)) (s : HasPredecessors G (count_of G) rows) where
+  pub within : AreRowsWithin rows
   within j i c = let l = (s.each j i c).0 in let n = s.count in omega arith
 
   to_past : (h u i : ℕ) → h < count_of G → i < count_of G → Reaches (RowLeads rows) (λ j. j ≢ h) i u → ReachesPast G (at G h) (at G i) (at G u)
@@ -140,11 +141,11 @@ module _ (G : Graph) (up : IsInOrder G) (rows : List (List ℕ)) (s : HasSources
           subst (InParts G h us) is (to_parts h us (get_or o.members c.0 0) lh (places_within h us (get_or o.members c.0 0) lh lu (inside c.0 m)) (inside c.0 m))
 
   -- what a search over places finds of a set that those words make up
-  searched : (P : ℕ → Type 0) (h : ℕ) (us : List ℕ) → h < count_of G → ((u : ℕ) → Contains us u → u < count_of G) → ((x : ℕ) → InParts G h us x ↔ P x) → (found : List ℕ) (small : Bool) → HasSearched small rows h us found → MatchBool small ((length found ≤ 256) × AreAt G P found) (¬ HasAtMost 256 P)
-  searched P h us lh lu same found true a = (a.bound, record { each = λ i c. (places_within h us i lh lu (a.each i c), (same (at G i)).0 (to_parts h us i lh (places_within h us i lh lu (a.each i c)) (a.each i c))); every = every })
+  searched : (P : ℕ → Type 0) (h : ℕ) (us : List ℕ) → h < count_of G → ((u : ℕ) → Contains us u → u < count_of G) → ((x : ℕ) → InParts G h us x ↔ P x) → (found : List ℕ) (small : Bool) → HasSearched small rows h us found → HasFew small G P found
+  searched P h us lh lu same found true a = (a.0, record { each = λ i c. (places_within h us i lh lu (a.1.each i c), (same (at G i)).0 (to_parts h us i lh (places_within h us i lh lu (a.1.each i c)) (a.1.each i c))); every = every })
     where
       every : (x : ℕ) → P x → IsAmong G found x
-      every x p = let t = from_parts h us x lh lu ((same x).1 p) in record { place = t.0; among = a.every t.0 t.2; is = t.1 }
+      every x p = let t = from_parts h us x lh lu ((same x).1 p) in record { place = t.0; among = a.1.every t.0 t.2; is = t.1 }
   searched P h us lh lu same found false a = over_not_at_most 256 P (let o = parts_over h us lh lu a in record { members = o.members; apart = o.apart; bound = o.bound; each = λ x c. (same x).0 (o.each x c) })
 
   one_part : (h u x : ℕ) → InParts G h (u ∷ []) x ↔ InPart G (at G h) (at G u) x
@@ -159,11 +160,7 @@ module _ (G : Graph) (up : IsInOrder G) (rows : List (List ℕ)) (s : HasSources
       back (inr r) = inr (record { source = u; among = from_in (u ∷ []) u (inl refl); way = r })
 
   pub has_part : (h u : ℕ) → h < count_of G → u < count_of G → (found : List ℕ) (small : Bool) → HasSearched small rows h (u ∷ []) found → HasPart small G h u found
-  has_part h u lh lu found small a = by small (searched (InPart G (at G h) (at G u)) h (u ∷ []) lh (λ v c. subst (λ (q : ℕ). q < count_of G) (alone u v c) lu) (one_part h u) found small a)
-    where
-      by : (small : Bool) → MatchBool small ((length found ≤ 256) × AreAt G (InPart G (at G h) (at G u)) found) (¬ HasAtMost 256 (InPart G (at G h) (at G u))) → HasPart small G h u found
-      by true p = record { bound = p.0; each = p.1.each; every = p.1.every }
-      by false p = p
+  has_part h u lh lu found small a = searched (InPart G (at G h) (at G u)) h (u ∷ []) lh (λ v c. subst (λ (q : ℕ). q < count_of G) (alone u v c) lu) (one_part h u) found small a
 
   -- of all closed edges to a word, of which there is one
   pub has_body : (h : ℕ) (us : List ℕ) → h < count_of G → IsRowOf G (IsClosed G) h us → IsHeader G (at G h) → (found : List ℕ) (small : Bool) → HasSearched small rows h us found → HasBody small G (at G h) found
@@ -195,15 +192,15 @@ contains_map f xs i y c e =
 
 module _ (G : Graph) (up : IsInOrder G) (flags : List Bool) (f : AreFlags G (Contains G.starts) flags) (h u : ℕ) (lh : h < count_of G) (found : List ℕ) (p : IsPart G h u found) where
   pub closed_from_entry : Leads G (at G u) (at G h) → IsOnlyEntry flags found h → IsClosed G (at G h) (at G u)
-  closed_from_entry edge only = record { edge = edge; word = word_at G h lh; small = record { members = map (at G) found; bound = subst (λ n. n ≤ 256) (sym (length-map found (at G))) p.bound; all = all }; entry = entry }
+  closed_from_entry edge only = record { edge = edge; word = word_at G h lh; small = record { members = map (at G) found; bound = subst (λ n. n ≤ 256) (sym (length-map found (at G))) p.0; all = all }; entry = entry }
     where
       all : (x : ℕ) → InPart G (at G h) (at G u) x → Contains (map (at G) found) x
-      all x q = let a = p.every x q in contains_map (at G) found a.place x a.among a.is
+      all x q = let a = p.1.every x q in contains_map (at G) found a.place x a.among a.is
 
       entry : (x : ℕ) → InPart G (at G h) (at G u) x → Contains G.starts x → x ≡ at G h
       entry x q start =
-          let a = p.every x q in
-          let l = (p.each a.place a.among).0 in
+          let a = p.1.every x q in
+          let l = (p.1.each a.place a.among).0 in
           sym a.is ∙ ap (at G) (only.same a.place a.among ((f.each a.place l).1 (subst (Contains G.starts) (sym a.is) start)))
 
   pub entry_from_closed : IsClosed G (at G h) (at G u) → IsOnlyEntry flags found h
@@ -211,8 +208,8 @@ module _ (G : Graph) (up : IsInOrder G) (flags : List Bool) (f : AreFlags G (Con
     where
       same : (i : ℕ) → Contains found i → get_or flags i false ≡ true → i ≡ h
       same i m t =
-          let l = (p.each i m).0 in
-          same_place (addresses G) up i h l lh (c.entry (at G i) (p.each i m).1 ((f.each i l).0 t))
+          let l = (p.1.each i m).0 in
+          same_place (addresses G) up i h l lh (c.entry (at G i) (p.1.each i m).1 ((f.each i l).0 t))
 
 -- the places before one and that one are all
 pub entry_all : (flags : List Bool) (found : List ℕ) (h n : ℕ) → length found ≤ n → ((k : ℕ) → k < n → get_or flags (get_or found k 0) false ≡ true → get_or found k 0 ≡ h) → IsOnlyEntry flags found h

@@ -12,14 +12,14 @@ use Rattle.loop_data.specs.Bodies.{IsClosed, InPart, InBody}
 use Rattle.loop_shapes.specs.Net.{IsPart}
 use Rattle.loop_data.specs.Shape.{IsInner}
 use Rattle.loop_data.specs.Starts.{AreFromStarts}
-use Rattle.loop_shapes.specs.Around.{entry_at, GivesWay, IsSettled, IsDone, LiesRight, IsRoundSoFar, AreRoundsSoFar, IsRound, AreRounds}
+use Rattle.loop_shapes.specs.Around.{entry_at, GivesWay, IsSettled, IsDone, LiesRight, IsExtremalSoFar, AreExtremalSoFar, IsExtremalLoop, AreExtremalLoops}
 use Rattle.loop_data.proofs.Lists.{In, to_in, from_in}
 use Rattle.loop_shapes.proofs.Rows.{none_in, same_place}
 use Rattle.loop_shapes.proofs.Parts.{word_at, place_of_source, place_of_word}
 use Rattle.loop_shapes.proofs.Nesting.{meet, within, same_loop, one_within}
 use Rattle.loop_shapes.specs.Lines.{IsRowOf}
 
-pub no_rounds : (G : Graph) (inner : Bool) (entries : List (Option ℕ)) → entries ≡ replicate (count_of G) None → AreRoundsSoFar G inner 0 [] entries
+pub no_rounds : (G : Graph) (inner : Bool) (entries : List (Option ℕ)) → entries ≡ replicate (count_of G) None → AreExtremalSoFar G inner 0 [] entries
 no_rounds G inner entries e = record { count = ap length e ∙ length-replicate (count_of G) None; none = λ i h u l q d p. nothing h u d; some = λ i m l q. absurd (empty i m l q) }
   where
     nothing : (h u : ℕ) → IsDone G 0 [] h u → ⊥
@@ -65,8 +65,8 @@ module _ (G : Graph) (all : AreFromStarts G) (up : IsInOrder G) where
   -- a place found holds the word
   found_at : (h u : ℕ) (found : List ℕ) → IsPart G h u found → (i : ℕ) → i < count_of G → InPart G (at G h) (at G u) (at G i) → Contains found i
   found_at h u found p i l q =
-      let a = p.every (at G i) q in
-      subst (Contains found) (same_place (addresses G) up a.place i (p.each a.place a.among).0 l a.is) a.among
+      let a = p.1.every (at G i) q in
+      subst (Contains found) (same_place (addresses G) up a.place i (p.1.each a.place a.among).0 l a.is) a.among
 
   module _ (header u : ℕ) (found row row' : List ℕ) (old new : List (Option ℕ)) (lh : header < count_of G) (c : IsClosed G (at G header) (at G u)) (p : IsPart G header u found) (grown : (v : ℕ) → Contains row' v → Contains row v ⊎ (v ≡ u)) where
     -- an edge that is done was done before or is the new one
@@ -82,11 +82,11 @@ module _ (G : Graph) (all : AreFromStarts G) (up : IsInOrder G) where
     own = record { source = at G u; closed = c; part = inl refl }
 
     in_body : (i : ℕ) → Contains found i → InBody G (at G header) (at G i)
-    in_body i m = record { source = at G u; closed = c; part = (p.each i m).1 }
+    in_body i m = record { source = at G u; closed = c; part = (p.1.each i m).1 }
 
     -- of two loops round a word one lies in the other
     one_in : (i m : ℕ) → m < count_of G → Contains found i → InBody G (at G m) (at G i) → Contains found m ⊎ InBody G (at G m) (at G header)
-    one_in i m lm f b = by (meet G all (at G header) (at G u) (at G m) b.source (at G i) c b.closed (word_at G i (p.each i f).0) (p.each i f).1 b.part)
+    one_in i m lm f b = by (meet G all (at G header) (at G u) (at G m) b.source (at G i) c b.closed (word_at G i (p.1.each i f).0) (p.1.each i f).1 b.part)
       where
         by : InPart G (at G header) (at G u) (at G m) ⊎ InPart G (at G m) b.source (at G header) → Contains found m ⊎ InBody G (at G m) (at G header)
         by (inl q) = inl (found_at header u found p m lm q)
@@ -117,7 +117,7 @@ module _ (G : Graph) (all : AreFromStarts G) (up : IsInOrder G) where
     right_of_own true = own
     right_of_own false = own
 
-    module _ (inner : Bool) (a : AreRoundsSoFar G inner header row old) (s : IsSettled inner found found header old new) where
+    module _ (inner : Bool) (a : AreExtremalSoFar G inner header row old) (s : IsSettled inner found found header old new) where
       absent : (i h v : ℕ) → i < count_of G → ¬ Contains found i → (h ≡ header) × (v ≡ u) → InPart G (at G h) (at G v) (at G i) → ⊥
       absent i h v l n e q = n (found_at header u found p i l (subst (λ (z : ℕ). InPart G (at G header) (at G z) (at G i)) e.1 (subst (λ (z : ℕ). InPart G (at G z) (at G v) (at G i)) e.0 q)))
 
@@ -125,10 +125,10 @@ module _ (G : Graph) (all : AreFromStarts G) (up : IsInOrder G) where
       moved m h e o = subst (λ (z : ℕ). LiesRight G inner (at G m) (at G z)) (sym e) o
 
       -- what stood there before stays
-      stays : (i m : ℕ) → i < count_of G → entry_at old i ≡ Some m → ((h v : ℕ) → (h ≡ header) × (v ≡ u) → InPart G (at G h) (at G v) (at G i) → LiesRight G inner (at G m) (at G header)) → IsRoundSoFar G inner header row' i m
+      stays : (i m : ℕ) → i < count_of G → entry_at old i ≡ Some m → ((h v : ℕ) → (h ≡ header) × (v ≡ u) → InPart G (at G h) (at G v) (at G i) → LiesRight G inner (at G m) (at G header)) → IsExtremalSoFar G inner header row' i m
       stays i m l e new_edge = record { place = r.place; holds = r.holds; order = λ h v d q. by h v q (split h v d) }
         where
-          r : IsRoundSoFar G inner header row i m
+          r : IsExtremalSoFar G inner header row i m
           r = a.some i m l e
 
           by : (h v : ℕ) → InPart G (at G h) (at G v) (at G i) → IsDone G header row h v ⊎ ((h ≡ header) × (v ≡ u)) → LiesRight G inner (at G m) (at G h)
@@ -136,7 +136,7 @@ module _ (G : Graph) (all : AreFromStarts G) (up : IsInOrder G) where
           by h v q (inr e) = moved m h e.0 (new_edge h v e q)
 
       -- the new loop takes its place
-      taken : (i : ℕ) → i < count_of G → Contains found i → GivesWay inner found (entry_at old i) → IsRoundSoFar G inner header row' i header
+      taken : (i : ℕ) → i < count_of G → Contains found i → GivesWay inner found (entry_at old i) → IsExtremalSoFar G inner header row' i header
       taken i l f g = record { place = lh; holds = in_body i f; order = λ h v d q. by h v q (split h v d) (standing (entry_at old i)) }
         where
           by : (h v : ℕ) → InPart G (at G h) (at G v) (at G i) → IsDone G header row h v ⊎ ((h ≡ header) × (v ≡ u)) → Standing (entry_at old i) → LiesRight G inner (at G header) (at G h)
@@ -146,15 +146,15 @@ module _ (G : Graph) (all : AreFromStarts G) (up : IsInOrder G) where
               let r = a.some i m l e in
               right_of_all inner i m h r.place f r.holds (subst (GivesWay inner found) e g) (r.order h v d q)
 
-      some_at : (i m : ℕ) → i < count_of G → entry_at new i ≡ Some m → Contains found i ⊎ ¬ Contains found i → IsRoundSoFar G inner header row' i m
+      some_at : (i m : ℕ) → i < count_of G → entry_at new i ≡ Some m → Contains found i ⊎ ¬ Contains found i → IsExtremalSoFar G inner header row' i m
       some_at i m l e (inr n) = stays i m l (sym (s.other i n) ∙ e) (λ h v q w. absurd (absent i h v l n q w))
       some_at i m l e (inl f) = by (gives inner (entry_at old i))
         where
-          by : GivesWay inner found (entry_at old i) ⊎ ¬ GivesWay inner found (entry_at old i) → IsRoundSoFar G inner header row' i m
+          by : GivesWay inner found (entry_at old i) ⊎ ¬ GivesWay inner found (entry_at old i) → IsExtremalSoFar G inner header row' i m
           by (inl g) =
               let q : Some header ≡ Some m = sym (s.taken i f g) ∙ e in
               let same : header ≡ m = cc in
-              subst (IsRoundSoFar G inner header row' i) same (taken i l f g)
+              subst (IsExtremalSoFar G inner header row' i) same (taken i l f g)
           by (inr n) =
               let q = sym (s.kept i f n) ∙ e in
               let r = a.some i m l q in
@@ -194,11 +194,11 @@ module _ (G : Graph) (all : AreFromStarts G) (up : IsInOrder G) where
                   not_taken : ¬ GivesWay inner found (entry_at old i) → ⊥
                   not_taken n = held (sym (s.kept i f n) ∙ e)
 
-      pub rounds_more : AreRoundsSoFar G inner header row' new
+      pub rounds_more : AreExtremalSoFar G inner header row' new
       rounds_more = record { count = s.count ∙ a.count; none = λ i h v l e d q. none_at i h v l e d q (decide found i); some = λ i m l e. some_at i m l e (decide found i) }
 
   -- all edges to a word are done
-  pub rounds_next : (inner : Bool) (header : ℕ) (row : List ℕ) (entries : List (Option ℕ)) → IsRowOf G (IsClosed G) header row → AreRoundsSoFar G inner header row entries → AreRoundsSoFar G inner (header + 1) [] entries
+  pub rounds_next : (inner : Bool) (header : ℕ) (row : List ℕ) (entries : List (Option ℕ)) → IsRowOf G (IsClosed G) header row → AreExtremalSoFar G inner header row entries → AreExtremalSoFar G inner (header + 1) [] entries
   rounds_next inner header row entries c a = record { count = a.count; none = λ i h u l e d. a.none i h u l e (before h u d); some = λ i m l e. let r = a.some i m l e in record { place = r.place; holds = r.holds; order = λ h u d. r.order h u (before h u d) } }
     where
       before : (h u : ℕ) → IsDone G (header + 1) [] h u → IsDone G header row h u
@@ -213,7 +213,7 @@ module _ (G : Graph) (all : AreFromStarts G) (up : IsInOrder G) where
               inr (e, c.every u d.1 (subst (λ (z : ℕ). IsClosed G (at G z) (at G u)) e d.2))
 
   -- all edges are done
-  pub rounds_all : (inner : Bool) (n : ℕ) (entries : List (Option ℕ)) → count_of G ≤ n → AreRoundsSoFar G inner n [] entries → AreRounds G inner entries
+  pub rounds_all : (inner : Bool) (n : ℕ) (entries : List (Option ℕ)) → count_of G ≤ n → AreExtremalSoFar G inner n [] entries → AreExtremalLoops G inner entries
   rounds_all inner n entries le a = record { count = a.count; none = none; some = λ i m l e. let r = a.some i m l e in record { place = r.place; holds = r.holds; order = λ k b. order i m r k b } }
     where
       none : (i k : ℕ) → i < count_of G → entry_at entries i ≡ None → InBody G k (at G i) → ⊥
@@ -224,7 +224,7 @@ module _ (G : Graph) (all : AreFromStarts G) (up : IsInOrder G) where
           let closed = subst (λ (z : ℕ). IsClosed G z (at G u.place)) (sym h.is) (subst (IsClosed G k) (sym u.is) b.closed) in
           a.none i h.place u.place l e (inl (omega arith, u.within, closed)) (subst (λ (z : ℕ). InPart G z (at G u.place) (at G i)) (sym h.is) (subst (λ (z : ℕ). InPart G k z (at G i)) (sym u.is) b.part))
 
-      order : (i m : ℕ) → IsRoundSoFar G inner n [] i m → (k : ℕ) → InBody G k (at G i) → LiesRight G inner (at G m) k
+      order : (i m : ℕ) → IsExtremalSoFar G inner n [] i m → (k : ℕ) → InBody G k (at G i) → LiesRight G inner (at G m) k
       order i m r k b =
           let h = place_of_word G k b.closed.word in
           let u = place_of_source G b.source k b.closed.edge in
@@ -232,7 +232,7 @@ module _ (G : Graph) (all : AreFromStarts G) (up : IsInOrder G) where
           let closed = subst (λ (z : ℕ). IsClosed G z (at G u.place)) (sym h.is) (subst (IsClosed G k) (sym u.is) b.closed) in
           subst (LiesRight G inner (at G m)) h.is (r.order h.place u.place (inl (omega arith, u.within, closed)) (subst (λ (z : ℕ). InPart G z (at G u.place) (at G i)) (sym h.is) (subst (λ (z : ℕ). InPart G k z (at G i)) (sym u.is) b.part)))
 
-pub entries_within : (G : Graph) (inner : Bool) (header : ℕ) (row : List ℕ) (entries : List (Option ℕ)) → AreRoundsSoFar G inner header row entries → (i m : ℕ) → entry_at entries i ≡ Some m → m < count_of G
+pub entries_within : (G : Graph) (inner : Bool) (header : ℕ) (row : List ℕ) (entries : List (Option ℕ)) → AreExtremalSoFar G inner header row entries → (i m : ℕ) → entry_at entries i ≡ Some m → m < count_of G
 entries_within G inner header row entries a i m e = by (cases_lt i (count_of G))
   where
     by : (i < count_of G) ⊎ (count_of G ≤ i) → m < count_of G
@@ -243,10 +243,10 @@ entries_within G inner header row entries a i m e = by (cases_lt i (count_of G))
         absurd (cc)
 
 -- a word that the innermost loop round it shares with another loop lies in no inner loop of that one
-pub outermost_by : (G : Graph) (all : AreFromStarts G) (entries : List (Option ℕ)) → AreRounds G true entries → (i m h : ℕ) → i < count_of G → entry_at entries i ≡ Some m → InBody G h (at G i) → (at G m ≡ h) ↔ ((k : ℕ) → IsInner G h k → ¬ InBody G k (at G i))
+pub outermost_by : (G : Graph) (all : AreFromStarts G) (entries : List (Option ℕ)) → AreExtremalLoops G true entries → (i m h : ℕ) → i < count_of G → entry_at entries i ≡ Some m → InBody G h (at G i) → (at G m ≡ h) ↔ ((k : ℕ) → IsInner G h k → ¬ InBody G k (at G i))
 outermost_by G all entries a i m h l e b = (there, back)
   where
-    r : IsRound G true i m
+    r : IsExtremalLoop G true i m
     r = a.some i m l e
 
     there : at G m ≡ h → (k : ℕ) → IsInner G h k → InBody G k (at G i) → ⊥
@@ -260,13 +260,13 @@ outermost_by G all entries a i m h l e b = (there, back)
         by (inr ne) = absurd (f (at G m) (record { header = record { source = r.holds.source; closed = r.holds.closed }; inside = r.order h b; other = ne }) r.holds)
 
 -- two words are in one loop where the outermost loop round each is the same
-pub one_loop : (G : Graph) (all : AreFromStarts G) → IsInOrder G → (entries : List (Option ℕ)) → AreRounds G false entries → (i j m n : ℕ) → i < count_of G → j < count_of G → entry_at entries i ≡ Some m → entry_at entries j ≡ Some n → (k : ℕ) → InBody G k (at G i) → InBody G k (at G j) → m ≡ n
+pub one_loop : (G : Graph) (all : AreFromStarts G) → IsInOrder G → (entries : List (Option ℕ)) → AreExtremalLoops G false entries → (i j m n : ℕ) → i < count_of G → j < count_of G → entry_at entries i ≡ Some m → entry_at entries j ≡ Some n → (k : ℕ) → InBody G k (at G i) → InBody G k (at G j) → m ≡ n
 one_loop G all up entries a i j m n li lj e f k b c = same_place (addresses G) up m n r.place s.place (by (one_within G all (at G m) (at G n) k b.closed.word (r.order k b) (s.order k c)))
   where
-    r : IsRound G false i m
+    r : IsExtremalLoop G false i m
     r = a.some i m li e
 
-    s : IsRound G false j n
+    s : IsExtremalLoop G false j n
     s = a.some j n lj f
 
     by : InBody G (at G m) (at G n) ⊎ InBody G (at G n) (at G m) → at G m ≡ at G n

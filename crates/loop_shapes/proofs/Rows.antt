@@ -6,14 +6,12 @@ use Rattle.std.proofs.lemmas.Bool.{cases_eq, cases_lt, false≢true}
 use Rattle.std.proofs.lemmas.List.{get_or-set_same, get_or-set_other, length-set, take_more, get_or_default, get_or-map, length-map, length-replicate, get_or-replicate, drop_all, append-nil, take_all}
 use Rattle.std.proofs.lemmas.List.Elements.{Contains-push_cases, Contains-push, Contains-append_left, Contains-get_or}
 use Rattle.std.proofs.lemmas.List.Kept.{AllPairs-from_increasing}
-use Rattle.std.specs.declared.vec.Vec.{Vec}
-use Rattle.std.specs.declared.alloc.Global.{Global}
-use Rattle.loop_shapes.specs.Rows.{row, items_of}
 use Rattle.loop_data.specs.declared.graph.Word.{Word}
 use Rattle.loop_data.specs.declared.graph.Graph.{Graph}
 use Rattle.loop_data.specs.Paths.{addresses, IsInOrder, Leads}
-use Rattle.loop_shapes.specs.Places.{Added, HasSources, AreFlags, Marked, in_row, count_of, at}
+use Rattle.loop_shapes.specs.Places.{HasPredecessors, AreFlags, Marked, count_of, at}
 use Rattle.loop_data.proofs.Lists.{to_in, from_in, In}
+use Rattle.loop_data.specs.Flows.{Added, row_at}
 
 -- the places of two equal numbers among numbers that rise
 pub same_place : (xs : List ℕ) → IsStrictlyIncreasing xs → (i j : ℕ) → i < length xs → j < length xs → get_or xs i 0 ≡ get_or xs j 0 → i ≡ j
@@ -41,57 +39,57 @@ pub none_in : {A : Type 0} (x : ℕ) → Contains {X = ℕ} [] x → A
 none_in x c = let l = c.1 in absurd (omega arith)
 
 -- the row of an address gets the number
-pub added_at : (xs : List ℕ) → IsStrictlyIncreasing xs → (rows : List (List ℕ)) → length rows ≡ length xs → (to from y : ℕ) → to < length xs → get_or xs to 0 ≡ y → (new : List (List ℕ)) → new ≡ set rows to (get_or rows to [] ++ from ∷ []) → Added xs from (y ∷ []) rows new
-added_at xs up rows same to from y l is new n = subst (Added xs from (y ∷ []) rows) (sym n) (record { count = length-set rows to _; kept = kept; each = each; every = every })
+pub added_at : (xs : List ℕ) → IsStrictlyIncreasing xs → (rows : List (List ℕ)) → length rows ≡ length xs → (to from y : ℕ) → to < length xs → get_or xs to 0 ≡ y → (new : List (List ℕ)) → new ≡ set rows to (get_or rows to [] ++ from ∷ []) → Added xs from (Contains (y ∷ [])) rows new
+added_at xs up rows same to from y l is new n = subst (Added xs from (Contains (y ∷ [])) rows) (sym n) (record { count = length-set rows to _; kept = kept; each = each; every = every })
   where
     fits : to < length rows
     fits = omega arith
 
-    kept : (j k : ℕ) → Contains (in_row rows j) k → Contains (in_row (set rows to (get_or rows to [] ++ from ∷ [])) j) k
+    kept : (j k : ℕ) → Contains (row_at rows j) k → Contains (row_at (set rows to (get_or rows to [] ++ from ∷ [])) j) k
     kept j k c = by (cases_eq j to)
       where
-        by : (j ≡ to) ⊎ (j ≢ to) → Contains (in_row (set rows to (get_or rows to [] ++ from ∷ [])) j) k
-        by (inl e) = subst (λ (q : ℕ). Contains (in_row (set rows to (get_or rows to [] ++ from ∷ [])) q) k) (sym e) (rw (get_or-set_same rows to (get_or rows to [] ++ from ∷ []) [] fits) (Contains-append_left (in_row rows to) (from ∷ []) k (subst (λ (q : ℕ). Contains (in_row rows q) k) e c)))
+        by : (j ≡ to) ⊎ (j ≢ to) → Contains (row_at (set rows to (get_or rows to [] ++ from ∷ [])) j) k
+        by (inl e) = subst (λ (q : ℕ). Contains (row_at (set rows to (get_or rows to [] ++ from ∷ [])) q) k) (sym e) (rw (get_or-set_same rows to (get_or rows to [] ++ from ∷ []) [] fits) (Contains-append_left (row_at rows to) (from ∷ []) k (subst (λ (q : ℕ). Contains (row_at rows q) k) e c)))
         by (inr ne) = rw (get_or-set_other rows to j (get_or rows to [] ++ from ∷ []) [] ne) c
 
-    each : (j k : ℕ) → Contains (in_row (set rows to (get_or rows to [] ++ from ∷ [])) j) k → Contains (in_row rows j) k ⊎ ((k ≡ from) × (j < length xs) × Contains (y ∷ []) (get_or xs j 0))
+    each : (j k : ℕ) → Contains (row_at (set rows to (get_or rows to [] ++ from ∷ [])) j) k → Contains (row_at rows j) k ⊎ ((k ≡ from) × (j < length xs) × Contains (y ∷ []) (get_or xs j 0))
     each j k c = by (cases_eq j to)
       where
-        pushed : j ≡ to → Contains (in_row rows j) k ⊎ (from ≡ k) → Contains (in_row rows j) k ⊎ ((k ≡ from) × (j < length xs) × Contains (y ∷ []) (get_or xs j 0))
+        pushed : j ≡ to → Contains (row_at rows j) k ⊎ (from ≡ k) → Contains (row_at rows j) k ⊎ ((k ≡ from) × (j < length xs) × Contains (y ∷ []) (get_or xs j 0))
         pushed e (inl d) = inl d
         pushed e (inr f) = inr (sym f, omega arith, from_in (y ∷ []) (get_or xs j 0) (inl (sym is ∙ ap (λ q. get_or xs q 0) (sym e))))
 
-        by : (j ≡ to) ⊎ (j ≢ to) → Contains (in_row rows j) k ⊎ ((k ≡ from) × (j < length xs) × Contains (y ∷ []) (get_or xs j 0))
-        by (inl e) = pushed e (Contains-push_cases (in_row rows j) from k (subst (λ (q : ℕ). Contains (in_row rows q ++ from ∷ []) k) (sym e) (rw (get_or-set_same rows to (get_or rows to [] ++ from ∷ []) [] fits) at (subst (λ (q : ℕ). Contains (in_row (set rows to (get_or rows to [] ++ from ∷ [])) q) k) e c))))
+        by : (j ≡ to) ⊎ (j ≢ to) → Contains (row_at rows j) k ⊎ ((k ≡ from) × (j < length xs) × Contains (y ∷ []) (get_or xs j 0))
+        by (inl e) = pushed e (Contains-push_cases (row_at rows j) from k (subst (λ (q : ℕ). Contains (row_at rows q ++ from ∷ []) k) (sym e) (rw (get_or-set_same rows to (get_or rows to [] ++ from ∷ []) [] fits) at (subst (λ (q : ℕ). Contains (row_at (set rows to (get_or rows to [] ++ from ∷ [])) q) k) e c))))
         by (inr ne) = inl (rw (get_or-set_other rows to j (get_or rows to [] ++ from ∷ []) [] ne) at c)
 
-    every : (j : ℕ) → j < length xs → Contains (y ∷ []) (get_or xs j 0) → Contains (in_row (set rows to (get_or rows to [] ++ from ∷ [])) j) from
+    every : (j : ℕ) → j < length xs → Contains (y ∷ []) (get_or xs j 0) → Contains (row_at (set rows to (get_or rows to [] ++ from ∷ [])) j) from
     every j m c =
         let e : j ≡ to = same_place xs up j to m l (sym (alone y (get_or xs j 0) c) ∙ sym is) in
-        subst (λ (q : ℕ). Contains (in_row (set rows to (get_or rows to [] ++ from ∷ [])) q) from) (sym e) (rw (get_or-set_same rows to (get_or rows to [] ++ from ∷ []) [] fits) (Contains-push (in_row rows to) from))
+        subst (λ (q : ℕ). Contains (row_at (set rows to (get_or rows to [] ++ from ∷ [])) q) from) (sym e) (rw (get_or-set_same rows to (get_or rows to [] ++ from ∷ []) [] fits) (Contains-push (row_at rows to) from))
 
 -- an address of no word has no row
-pub added_nowhere : (xs : List ℕ) (rows : List (List ℕ)) (from y : ℕ) → (Contains xs y → ⊥) → Added xs from (y ∷ []) rows rows
+pub added_nowhere : (xs : List ℕ) (rows : List (List ℕ)) (from y : ℕ) → (Contains xs y → ⊥) → Added xs from (Contains (y ∷ [])) rows rows
 added_nowhere xs rows from y absent = record { count = refl; kept = λ j k c. c; each = λ j k c. inl c; every = λ j l c. absurd (absent (subst (Contains xs) (sym (alone y (get_or xs j 0) c)) (Contains-get_or xs j 0 l))) }
 
-pub added_more : (xs ys : List ℕ) (from i : ℕ) (old mid new : List (List ℕ)) → i < length ys → Added xs from (take i ys) old mid → Added xs from (get_or ys i 0 ∷ []) mid new → Added xs from (take (i + 1) ys) old new
+pub added_more : (xs ys : List ℕ) (from i : ℕ) (old mid new : List (List ℕ)) → i < length ys → Added xs from (Contains (take i ys)) old mid → Added xs from (Contains (get_or ys i 0 ∷ [])) mid new → Added xs from (Contains (take (i + 1) ys)) old new
 added_more xs ys from i old mid new l a b = rw (take_more ys i 0 l) (record { count = b.count ∙ a.count; kept = λ j k c. b.kept j k (a.kept j k c); each = each; every = every })
   where
-    each : (j k : ℕ) → Contains (in_row new j) k → Contains (in_row old j) k ⊎ ((k ≡ from) × (j < length xs) × Contains (take i ys ++ get_or ys i 0 ∷ []) (get_or xs j 0))
+    each : (j k : ℕ) → Contains (row_at new j) k → Contains (row_at old j) k ⊎ ((k ≡ from) × (j < length xs) × Contains (take i ys ++ get_or ys i 0 ∷ []) (get_or xs j 0))
     each j k c = by (b.each j k c)
       where
-        first : Contains (in_row old j) k ⊎ ((k ≡ from) × (j < length xs) × Contains (take i ys) (get_or xs j 0)) → Contains (in_row old j) k ⊎ ((k ≡ from) × (j < length xs) × Contains (take i ys ++ get_or ys i 0 ∷ []) (get_or xs j 0))
+        first : Contains (row_at old j) k ⊎ ((k ≡ from) × (j < length xs) × Contains (take i ys) (get_or xs j 0)) → Contains (row_at old j) k ⊎ ((k ≡ from) × (j < length xs) × Contains (take i ys ++ get_or ys i 0 ∷ []) (get_or xs j 0))
         first (inl d) = inl d
         first (inr d) = inr (d.0, d.1, Contains-append_left (take i ys) (get_or ys i 0 ∷ []) (get_or xs j 0) d.2)
 
-        by : Contains (in_row mid j) k ⊎ ((k ≡ from) × (j < length xs) × Contains (get_or ys i 0 ∷ []) (get_or xs j 0)) → Contains (in_row old j) k ⊎ ((k ≡ from) × (j < length xs) × Contains (take i ys ++ get_or ys i 0 ∷ []) (get_or xs j 0))
+        by : Contains (row_at mid j) k ⊎ ((k ≡ from) × (j < length xs) × Contains (get_or ys i 0 ∷ []) (get_or xs j 0)) → Contains (row_at old j) k ⊎ ((k ≡ from) × (j < length xs) × Contains (take i ys ++ get_or ys i 0 ∷ []) (get_or xs j 0))
         by (inl d) = first (a.each j k d)
         by (inr d) = inr (d.0, d.1, subst (Contains (take i ys ++ get_or ys i 0 ∷ [])) (alone (get_or ys i 0) (get_or xs j 0) d.2) (Contains-push (take i ys) (get_or ys i 0)))
 
-    every : (j : ℕ) → j < length xs → Contains (take i ys ++ get_or ys i 0 ∷ []) (get_or xs j 0) → Contains (in_row new j) from
+    every : (j : ℕ) → j < length xs → Contains (take i ys ++ get_or ys i 0 ∷ []) (get_or xs j 0) → Contains (row_at new j) from
     every j m c = by (Contains-push_cases (take i ys) (get_or ys i 0) (get_or xs j 0) c)
       where
-        by : Contains (take i ys) (get_or xs j 0) ⊎ (get_or ys i 0 ≡ get_or xs j 0) → Contains (in_row new j) from
+        by : Contains (take i ys) (get_or xs j 0) ⊎ (get_or ys i 0 ≡ get_or xs j 0) → Contains (row_at new j) from
         by (inl d) = b.kept j from (a.every j m d)
         by (inr e) = b.every j m (from_in (get_or ys i 0 ∷ []) (get_or xs j 0) (inl e))
 
@@ -112,24 +110,24 @@ steps_at G up i w l is y lead =
 pub leads_at : (G : Graph) (i : ℕ) (w : Word) → i < length G.words → w ≡ get_or G.words i w → (y : ℕ) → Contains w.steps.items y → Leads G (at G i) y
 leads_at G i w l is y c = record { word = w; among = (i, l, sym is); at = address_at G i w l (sym is); step = c }
 
-pub sources_more : (G : Graph) → IsInOrder G → (i : ℕ) (w : Word) (old new : List (List ℕ)) → i < count_of G → w ≡ get_or G.words i w → HasSources G i old → Added (addresses G) i w.steps.items old new → HasSources G (i + 1) new
+pub sources_more : (G : Graph) → IsInOrder G → (i : ℕ) (w : Word) (old new : List (List ℕ)) → i < count_of G → w ≡ get_or G.words i w → HasPredecessors G i old → Added (addresses G) i (Contains w.steps.items) old new → HasPredecessors G (i + 1) new
 sources_more G up i w old new l is s a = record { count = a.count ∙ s.count; each = each; every = every }
   where
-    each : (j k : ℕ) → Contains (in_row new j) k → (k < i + 1) × Leads G (at G k) (at G j)
+    each : (j k : ℕ) → Contains (row_at new j) k → (k < i + 1) × Leads G (at G k) (at G j)
     each j k c = by (a.each j k c)
       where
-        by : Contains (in_row old j) k ⊎ ((k ≡ i) × (j < count_of G) × Contains w.steps.items (at G j)) → (k < i + 1) × Leads G (at G k) (at G j)
+        by : Contains (row_at old j) k ⊎ ((k ≡ i) × (j < count_of G) × Contains w.steps.items (at G j)) → (k < i + 1) × Leads G (at G k) (at G j)
         by (inl d) = let r = s.each j k d in let q = r.0 in (omega arith, r.1)
         by (inr d) =
             let e = d.0 in
             let n = length-map G.words (λ (v : Word). v.at) in
             (omega arith, subst (λ (q : ℕ). Leads G (at G q) (at G j)) (sym e) (leads_at G i w (omega arith) is (at G j) d.2))
 
-    every : (j k : ℕ) → k < i + 1 → j < count_of G → Leads G (at G k) (at G j) → Contains (in_row new j) k
+    every : (j k : ℕ) → k < i + 1 → j < count_of G → Leads G (at G k) (at G j) → Contains (row_at new j) k
     every j k m lj lead = by (cases_eq k i)
       where
-        by : (k ≡ i) ⊎ (k ≢ i) → Contains (in_row new j) k
-        by (inl e) = subst (Contains (in_row new j)) (sym e) (a.every j lj (steps_at G up i w l is (at G j) (subst (λ (q : ℕ). Leads G (at G q) (at G j)) e lead)))
+        by : (k ≡ i) ⊎ (k ≢ i) → Contains (row_at new j) k
+        by (inl e) = subst (Contains (row_at new j)) (sym e) (a.every j lj (steps_at G up i w l is (at G j) (subst (λ (q : ℕ). Leads G (at G q) (at G j)) e lead)))
         by (inr ne) = a.kept j k (s.every j k (omega arith) lj lead)
 
 -- a flag more at the place of an address
@@ -188,7 +186,3 @@ kept_whole n xs ys e f =
     let gone = drop_all (length xs) ys (omega arith) in
     let all : take n (xs ++ []) ≡ take n xs = ap (take n) (append-nil xs) in
     rw gone (all ∙ take_all n xs (omega arith))
-
--- the vector at a place has the row there
-pub row_read : (vs : List (Vec ℕ Global)) (i : ℕ) (v : Vec ℕ Global) → i < length vs → v ≡ get_or vs i v → v.items ≡ row vs i
-row_read vs i v l e = ap items_of e ∙ sym (get_or-map items_of vs i v [] l)

@@ -6,11 +6,11 @@ use Rattle.std.proofs.lemmas.List.{get_or_append_left, get_or_push, length_push,
 use Rattle.std.proofs.lemmas.List.Elements.{Contains-push_cases, Contains-push, Contains-append_left, Contains-get_or}
 use Rattle.loop_data.specs.Paths.{Reaches}
 use Rattle.loop_shapes.specs.Sets.{AreDifferent, HasOver}
-use Rattle.loop_shapes.specs.Places.{in_row}
-use Rattle.loop_shapes.specs.Search.{IsIndexed, Grown, HasRoom, HasNoRoom, HasTried, RowLeads, InPlaces, ArePlaces}
+use Rattle.loop_shapes.specs.Search.{IsIndexed, Grown, HasRoom, HasNoRoom, HasTried, RowLeads, InPlaces, AreFew}
 use Rattle.loop_data.proofs.Ways.{stop, step, backward}
 use Rattle.loop_data.proofs.Lists.{from_in}
 use Rattle.loop_shapes.proofs.Rows.{alone}
+use Rattle.loop_data.specs.Flows.{row_at}
 
 -- a number found stands at the place that its slot has
 slot_of : (found slots : List ℕ) → IsIndexed found slots → (i j : ℕ) → i < length found → j < length found → get_or found i 0 ≡ get_or found j 0 → i ≡ j
@@ -176,17 +176,17 @@ not_header rows h us next found slots s k l m e =
     omega arith
 
 module _ (rows : List (List ℕ)) (h : ℕ) (us : List ℕ) (next : ℕ) (found slots : List ℕ) (s : Searching rows h us next found slots) (more : next < length found) where
-  next_sound : (i : ℕ) → Contains found i ⊎ Contains (in_row rows (get_or found next 0)) i → InPlaces rows h us i
+  next_sound : (i : ℕ) → Contains found i ⊎ Contains (row_at rows (get_or found next 0)) i → InPlaces rows h us i
   next_sound i (inl c) = s.sound i c
   next_sound i (inr c) =
       let f = s.from in
       before_next rows h us i (get_or found next 0) (not_header rows h us next found slots s next (omega arith) more) c (s.sound (get_or found next 0) (Contains-get_or found next 0 more))
 
-  pub search_more : (new slots' : List ℕ) → HasRoom found (in_row rows (get_or found next 0)) new slots' → Searching rows h us (next + 1) new slots'
+  pub search_more : (new slots' : List ℕ) → HasRoom found (row_at rows (get_or found next 0)) new slots' → Searching rows h us (next + 1) new slots'
   search_more new slots' a =
       let n = a.grown.longer in
       let f = s.from in
-      record { from = omega arith; to = omega arith; head = a.grown.same 0 (omega arith) ∙ s.head; bound = a.bound; indexed = a.indexed; sound = λ i c. next_sound i (a.grown.each i c); sources = λ u c. kept found (in_row rows (get_or found next 0)) new a.grown u (s.sources u c); done = done }
+      record { from = omega arith; to = omega arith; head = a.grown.same 0 (omega arith) ∙ s.head; bound = a.bound; indexed = a.indexed; sound = λ i c. next_sound i (a.grown.each i c); sources = λ u c. kept found (row_at rows (get_or found next 0)) new a.grown u (s.sources u c); done = done }
     where
       done : (k : ℕ) → 0 < k → k < next + 1 → (i : ℕ) → RowLeads rows i (get_or new k 0) → Contains new i
       done k l m i lead = by (cases_lt k next)
@@ -195,16 +195,16 @@ module _ (rows : List (List ℕ)) (h : ℕ) (us : List ℕ) (next : ℕ) (found 
           same q = a.grown.same k (omega arith)
 
           by : (k < next) ⊎ (next ≤ k) → Contains new i
-          by (inl q) = kept found (in_row rows (get_or found next 0)) new a.grown i (s.done k l q i (subst (λ (z : ℕ). RowLeads rows i z) (same (omega arith)) lead))
+          by (inl q) = kept found (row_at rows (get_or found next 0)) new a.grown i (s.done k l q i (subst (λ (z : ℕ). RowLeads rows i z) (same (omega arith)) lead))
           by (inr q) =
               let e : k ≡ next = omega arith in
               a.grown.every i (subst (λ (z : ℕ). RowLeads rows i z) (same (omega arith) ∙ ap (λ z. get_or found z 0) e) lead)
 
-  pub search_full : (new slots' : List ℕ) → HasNoRoom found (in_row rows (get_or found next 0)) new slots' → HasOver 256 (InPlaces rows h us)
-  search_full new slots' a = over_full (InPlaces rows h us) found (in_row rows (get_or found next 0)) new slots' a next_sound
+  pub search_full : (new slots' : List ℕ) → HasNoRoom found (row_at rows (get_or found next 0)) new slots' → HasOver 256 (InPlaces rows h us)
+  search_full new slots' a = over_full (InPlaces rows h us) found (row_at rows (get_or found next 0)) new slots' a next_sound
 
-pub search_done : (rows : List (List ℕ)) (h : ℕ) (us : List ℕ) (next : ℕ) (found slots : List ℕ) → Searching rows h us next found slots → length found ≤ next → ArePlaces (InPlaces rows h us) found
-search_done rows h us next found slots s end = record { bound = s.bound; each = s.sound; every = every }
+pub search_done : (rows : List (List ℕ)) (h : ℕ) (us : List ℕ) (next : ℕ) (found slots : List ℕ) → Searching rows h us next found slots → length found ≤ next → AreFew (InPlaces rows h us) found
+search_done rows h us next found slots s end = (s.bound, record { each = s.sound; every = every })
   where
     head : Contains found h
     head = let f = s.from in let t = s.to in subst (Contains found) s.head (Contains-get_or found 0 0 (omega arith))

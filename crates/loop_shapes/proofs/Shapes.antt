@@ -3,14 +3,14 @@ use Rattle.std.proofs.Common.{◌≡◌, ℕ, inl, List, [], ◌∷◌, sym, sub
 use Rattle.std.specs.List.{Contains}
 use Rattle.loop_data.specs.declared.graph.Graph.{Graph}
 use Rattle.loop_data.specs.Sets.{IsListOf}
-use Rattle.loop_shapes.specs.Outside.{IsOutside}
+use Rattle.loop_shapes.specs.Difference.{InDifference}
 use Rattle.loop_data.specs.Shape.{IsInner, InNest, IsOneBack, IsOneExit, IsSide, IsExitBranch, HasOwnShape, IsShaped}
 use Rattle.loop_shapes.specs.LoopBody.{IsLeftFrom, IsLeftOnlyFrom}
 use Rattle.loop_data.proofs.Lists.{from_in}
 use Rattle.loop_shapes.proofs.Rows.{alone}
 
 -- the inner loops are those of the nest without its root
-pub inner_by : (G : Graph) (h : ℕ) (nest xs : List ℕ) → IsListOf (InNest G h) nest → IsListOf (IsOutside nest (h ∷ [])) xs → IsListOf (IsInner G h) xs
+pub inner_by : (G : Graph) (h : ℕ) (nest xs : List ℕ) → IsListOf (InNest G h) nest → IsListOf (InDifference nest (h ∷ [])) xs → IsListOf (IsInner G h) xs
 inner_by G h nest xs n l = record { ordered = l.ordered; each = each; every = every }
   where
     each : (x : ℕ) → Contains xs x → IsInner G h x

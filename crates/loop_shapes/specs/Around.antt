@@ -34,36 +34,36 @@ abbrev pub LiesRight : Graph → Bool → ℕ → ℕ → Type 0
 LiesRight G inner m k = MatchBool inner (InBody G k m) (InBody G m k)
 
 -- of the loops round the word at i that those edges make, m is the innermost or outermost
-pub record IsRoundSoFar (G : Graph) (inner : Bool) (header : ℕ) (row : List ℕ) (i m : ℕ) : Type 0 where
+pub record IsExtremalSoFar (G : Graph) (inner : Bool) (header : ℕ) (row : List ℕ) (i m : ℕ) : Type 0 where
   pub place : m < count_of G
   pub holds : InBody G (at G m) (at G i)
   pub order : (h u : ℕ) → IsDone G header row h u → InPart G (at G h) (at G u) (at G i)
       → LiesRight G inner (at G m) (at G h)
 
 -- for each word that loop, by its header's place
-pub record AreRoundsSoFar (G : Graph) (inner : Bool) (header : ℕ) (row : List ℕ)
+pub record AreExtremalSoFar (G : Graph) (inner : Bool) (header : ℕ) (row : List ℕ)
     (entries : List (Option ℕ)) : Type 0 where
   pub count : length entries ≡ count_of G
   pub none : (i h u : ℕ) → i < count_of G → entry_at entries i ≡ None → IsDone G header row h u
       → ¬ InPart G (at G h) (at G u) (at G i)
-  pub some : (i m : ℕ) → i < count_of G → entry_at entries i ≡ Some m → IsRoundSoFar G inner header row i m
+  pub some : (i m : ℕ) → i < count_of G → entry_at entries i ≡ Some m → IsExtremalSoFar G inner header row i m
 
 pub record AreAroundSoFar (G : Graph) (header : ℕ) (row : List ℕ) (a : Around) : Type 0 where
-  pub innermost : AreRoundsSoFar G true header row a.innermost.items
-  pub outermost : AreRoundsSoFar G false header row a.outermost.items
+  pub innermost : AreExtremalSoFar G true header row a.innermost.items
+  pub outermost : AreExtremalSoFar G false header row a.outermost.items
 
 -- of all loops round the word at i, m is the innermost or outermost
-pub record IsRound (G : Graph) (inner : Bool) (i m : ℕ) : Type 0 where
+pub record IsExtremalLoop (G : Graph) (inner : Bool) (i m : ℕ) : Type 0 where
   pub place : m < count_of G
   pub holds : InBody G (at G m) (at G i)
   pub order : (k : ℕ) → InBody G k (at G i) → LiesRight G inner (at G m) k
 
 -- for each word that loop, by its header's place
-pub record AreRounds (G : Graph) (inner : Bool) (entries : List (Option ℕ)) : Type 0 where
+pub record AreExtremalLoops (G : Graph) (inner : Bool) (entries : List (Option ℕ)) : Type 0 where
   pub count : length entries ≡ count_of G
   pub none : (i k : ℕ) → i < count_of G → entry_at entries i ≡ None → ¬ InBody G k (at G i)
-  pub some : (i m : ℕ) → i < count_of G → entry_at entries i ≡ Some m → IsRound G inner i m
+  pub some : (i m : ℕ) → i < count_of G → entry_at entries i ≡ Some m → IsExtremalLoop G inner i m
 
 pub record AreAround (G : Graph) (a : Around) : Type 0 where
-  pub innermost : AreRounds G true a.innermost.items
-  pub outermost : AreRounds G false a.outermost.items
+  pub innermost : AreExtremalLoops G true a.innermost.items
+  pub outermost : AreExtremalLoops G false a.outermost.items

@@ -24,7 +24,7 @@ class_of (Some (Upper Auipc rd imm)) = UpperPc rd
 class_of (Some _) = Other
 
 -- the reached word at x has this class
-pub record HasClass (G : Graph) (x : ℕ) (class : Class) : Type 0 where
+pub record IsWordOfClass (G : Graph) (x : ℕ) (class : Class) : Type 0 where
   pub word : Word
   pub among : Contains G.words word
   pub at : word.at ≡ x

@@ -14,15 +14,15 @@ use Rattle.loop_data.specs.Loops.{IsLoop}
 use Rattle.loop_data.specs.LoopWords.{AreNestAt}
 
 -- the loop at k lies in that at h
-abbrev pub LiesIn : Graph → ℕ → ℕ → Type 0
-LiesIn G k h = (x : ℕ) → InBody G k x → InBody G h x
+abbrev pub IsNestedIn : Graph → ℕ → ℕ → Type 0
+IsNestedIn G k h = (x : ℕ) → InBody G k x → InBody G h x
 
 -- how the bodies of loops lie to each other
 pub record AreBodies (G : Graph) : Type 0 where
   -- of two loops that have a word in common one lies in the other
-  pub meet : (h k x : ℕ) → InBody G h x → InBody G k x → LiesIn G k h ⊎ LiesIn G h k
+  pub meet : (h k x : ℕ) → InBody G h x → InBody G k x → IsNestedIn G k h ⊎ IsNestedIn G h k
   -- an inner loop lies in the loop and does not hold its header, and its own inner loops are inner loops
-  pub within : (h k : ℕ) → IsInner G h k → LiesIn G k h
+  pub within : (h k : ℕ) → IsInner G h k → IsNestedIn G k h
   pub header : (h k : ℕ) → IsInner G h k → ¬ InBody G k h
   pub inner : (h k j : ℕ) → IsInner G h k → IsInner G k j → IsInner G h j
   -- the source of a closed edge is reached from the header inside the loop

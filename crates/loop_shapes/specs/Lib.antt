@@ -1,4 +1,3 @@
-pub mod Rows
 pub mod Places
 pub mod Sets
 pub mod Search
@@ -10,7 +9,7 @@ pub mod Gains
 pub mod Edges
 pub mod Reach
 pub mod Cycles
-pub mod Outside
+pub mod Difference
 pub mod Entry
 pub mod Lines
 pub mod Numbers

@@ -3,8 +3,9 @@ use Rattle.std.specs.Prelude.{ℕ, ◌≡◌, ◌<◌, Bool, MatchBool, List, le
 use Rattle.std.specs.List.{Contains}
 use Rattle.loop_data.specs.declared.graph.Graph.{Graph}
 use Rattle.loop_data.specs.Bodies.{InPart, InBody}
-use Rattle.loop_shapes.specs.Places.{count_of, at, in_row}
+use Rattle.loop_shapes.specs.Places.{count_of, at}
 use Rattle.loop_data.specs.Sets.{HasAtMost}
+use Rattle.loop_data.specs.Flows.{row_at}
 
 -- the places of the words in a relation to the word at a place
 pub record IsRowOf (G : Graph) (R : ℕ → ℕ → Type 0) (g : ℕ) (row : List ℕ) : Type 0 where
@@ -14,7 +15,7 @@ pub record IsRowOf (G : Graph) (R : ℕ → ℕ → Type 0) (g : ℕ) (row : Lis
 -- for each word, those places
 pub record AreRowsOf (G : Graph) (R : ℕ → ℕ → Type 0) (rows : List (List ℕ)) : Type 0 where
   pub count : length rows ≡ count_of G
-  pub each : (g : ℕ) → g < count_of G → IsRowOf G R g (in_row rows g)
+  pub each : (g : ℕ) → g < count_of G → IsRowOf G R g (row_at rows g)
 
 -- the words of the edge from one of these places pass the limit
 pub record IsLargeAmong (G : Graph) (header : ℕ) (row : List ℕ) : Type 0 where

@@ -7,14 +7,15 @@ use Rattle.loop_shapes.specs.declared.kind.Kind.TheVariants.{Calls, Asks, JumpsA
 use Rattle.loop_shapes.specs.declared.marks.Marks.{Marks}
 use Rattle.loop_data.specs.Bodies.{IsHeader}
 use Rattle.loop_shapes.specs.Kinds.{HasKind}
-use Rattle.loop_shapes.specs.Outer.{AreKnown, IsClean, IsSet, IsUnsound}
+use Rattle.loop_shapes.specs.Outer.{AreKnown, IsClean, IsUnsound}
 use Rattle.loop_shapes.specs.Places.{AreFlags, at}
 use Rattle.loop_data.specs.Sets.{IsLeast}
 use Rattle.loop_data.specs.Shape.{IsShaped}
+use Rattle.loop_data.specs.Flows.{IsSet}
 
 -- the flags of the words by what they do, of the loops that have not the shape, and of outermost loops
 -- that are clean
-pub record AreMarks (G : Graph) (m : Marks) : Type 0 where
+pub record AreWordMarks (G : Graph) (m : Marks) : Type 0 where
   pub calls : AreFlags G (HasKind Calls G) m.calls.items
   pub asks : AreFlags G (HasKind Asks G) m.asks.items
   pub jumps : AreFlags G (HasKind JumpsAnywhere G) m.jumps.items

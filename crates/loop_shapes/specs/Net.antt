@@ -4,11 +4,11 @@ use Rattle.std.specs.List.{Contains}
 use Rattle.loop_data.specs.declared.graph.Graph.{Graph}
 use Rattle.loop_shapes.specs.declared.net.Net.{Net}
 use Rattle.loop_data.specs.Paths.{addresses, IsInOrder}
-use Rattle.loop_shapes.specs.Places.{HasSources, AreFlags, count_of, at, in_row}
-use Rattle.loop_shapes.specs.Rows.{rows}
+use Rattle.loop_shapes.specs.Places.{HasPredecessors, AreFlags, count_of, at}
 use Rattle.loop_data.specs.Bodies.{InPart, IsClosed, InBody}
 use Rattle.loop_data.specs.Sets.{HasAtMost}
 use Rattle.loop_data.specs.Starts.{AreFromStarts}
+use Rattle.loop_data.specs.Flows.{row_at, rows}
 
 -- the graph of the net
 abbrev pub graph_of : Net → Graph
@@ -18,7 +18,7 @@ graph_of n = n.graph.now
 pub record IsNet (n : Net) : Type 0 where
   pub ordered : IsInOrder (graph_of n)
   pub addresses_are : n.at.items ≡ addresses (graph_of n)
-  pub sources : HasSources (graph_of n) (count_of (graph_of n)) (rows n.before.items)
+  pub sources : HasPredecessors (graph_of n) (count_of (graph_of n)) (rows n.before.items)
   pub starts : AreFlags (graph_of n) (Contains (graph_of n).starts) n.starts.items
   pub from_starts : AreFromStarts (graph_of n)
 
@@ -33,21 +33,24 @@ pub record AreAt (G : Graph) (P : ℕ → Type 0) (found : List ℕ) : Type 0 wh
   pub each : (i : ℕ) → Contains found i → (i < count_of G) × P (at G i)
   pub every : (x : ℕ) → P x → IsAmong G found x
 
--- the places of the words of a loop's body, at most 256, or that there are more
+-- those places, at most 256
+abbrev pub AreFewAt : Graph → (ℕ → Type 0) → List ℕ → Type 0
+AreFewAt G P found = (length found ≤ 256) × AreAt G P found
+
+-- at most 256 places, or that there are more
+abbrev pub HasFew : Bool → Graph → (ℕ → Type 0) → List ℕ → Type 0
+HasFew small G P found = MatchBool small (AreFewAt G P found) (¬ HasAtMost 256 P)
+
+-- of the words of a loop's body
 abbrev pub HasBody : Bool → Graph → ℕ → List ℕ → Type 0
-HasBody small G h found = MatchBool small ((length found ≤ 256) × AreAt G (InBody G h) found)
-    (¬ HasAtMost 256 (InBody G h))
+HasBody small G h found = HasFew small G (InBody G h) found
 
--- the places of the words that the edge from one place to another closes into a loop
-pub record IsPart (G : Graph) (header source : ℕ) (found : List ℕ) : Type 0 where
-  pub bound : length found ≤ 256
-  pub each : (i : ℕ) → Contains found i → (i < count_of G) × InPart G (at G header) (at G source) (at G i)
-  pub every : (x : ℕ) → InPart G (at G header) (at G source) x → IsAmong G found x
+-- of the words that the edge from one place to another closes into a loop
+abbrev pub IsPart : Graph → ℕ → ℕ → List ℕ → Type 0
+IsPart G header source found = AreFewAt G (InPart G (at G header) (at G source)) found
 
--- those places, or that there are too many
 abbrev pub HasPart : Bool → Graph → ℕ → ℕ → List ℕ → Type 0
-HasPart small G header source found = MatchBool small (IsPart G header source found)
-    (¬ HasAtMost 256 (InPart G (at G header) (at G source)))
+HasPart small G header source found = HasFew small G (InPart G (at G header) (at G source)) found
 
 -- of these places only one is that of a start word
 pub record IsOnlyEntry (starts : List Bool) (found : List ℕ) (header : ℕ) : Type 0 where
@@ -69,7 +72,3 @@ pub record IsPartOf (G : Graph) (header : ℕ) (sources : List ℕ) (x : ℕ) : 
   pub source : ℕ
   pub among : Contains sources source
   pub part : InPart G (at G header) (at G source) x
-
-pub record IsUnion (G : Graph) (header : ℕ) (sources xs : List ℕ) : Type 0 where
-  pub each : (x : ℕ) → Contains xs x → IsPartOf G header sources x
-  pub every : (i x : ℕ) → Contains sources i → InPart G (at G header) (at G i) x → Contains xs x

@@ -6,7 +6,8 @@ use Rattle.strong_components.specs.Graph.{IsEdge}
 use Rattle.loop_data.specs.declared.graph.Graph.{Graph}
 use Rattle.loop_data.specs.Paths.{Leads}
 use Rattle.loop_data.specs.Bodies.{IsClosed}
-use Rattle.loop_shapes.specs.Places.{count_of, at, in_row}
+use Rattle.loop_shapes.specs.Places.{count_of, at}
+use Rattle.loop_data.specs.Flows.{row_at}
 
 -- an edge that is not closed
 pub record IsOpenStep (G : Graph) (x y : ℕ) : Type 0 where
@@ -21,12 +22,12 @@ pub record IsCut (to : ℕ) (from : List ℕ) (old new : List Successors) : Type
 -- those to the places before one
 pub record AreCutBelow (rows : List (List ℕ)) (n : ℕ) (old new : List Successors) : Type 0 where
   pub count : length new ≡ length old
-  pub each : (a b : ℕ) → IsEdge new a b ↔ (IsEdge old a b × ¬ ((b < n) × Contains (in_row rows b) a))
+  pub each : (a b : ℕ) → IsEdge new a b ↔ (IsEdge old a b × ¬ ((b < n) × Contains (row_at rows b) a))
 
 -- those to all places
 pub record AreCut (rows : List (List ℕ)) (old new : List Successors) : Type 0 where
   pub count : length new ≡ length old
-  pub each : (a b : ℕ) → IsEdge new a b ↔ (IsEdge old a b × ¬ Contains (in_row rows b) a)
+  pub each : (a b : ℕ) → IsEdge new a b ↔ (IsEdge old a b × ¬ Contains (row_at rows b) a)
 
 -- the edges that are not closed
 pub record AreOpen (G : Graph) (nodes : List Successors) : Type 0 where

@@ -1,14 +1,11 @@
 -- What is known of the outermost loops, and so of those in them.
-use Rattle.std.specs.Prelude.{ℕ, ◌≡◌, ◌<◌, Bool, true, false, List, length, slice_index_or}
+use Rattle.std.specs.Prelude.{ℕ, ◌≡◌, ◌<◌, Bool, List, length}
 use Rattle.loop_data.specs.declared.graph.Graph.{Graph}
 use Rattle.loop_data.specs.Bodies.{InBody, IsHeader}
 use Rattle.loop_data.specs.Early.{IsMisshapen, IsPlain}
+use Rattle.loop_data.specs.Flows.{IsSet}
 use Rattle.loop_data.specs.Shape.{HasShape, IsForward, IsOnCycle}
 use Rattle.loop_shapes.specs.Places.{at, count_of}
-
--- a flag is set
-abbrev pub IsSet : List Bool → ℕ → Type 0
-IsSet flags i = slice_index_or flags i false ≡ true
 
 -- where a flag is set this is known of the loop there
 pub record AreKnown (G : Graph) (P : ℕ → Type 0) (flags : List Bool) : Type 0 where

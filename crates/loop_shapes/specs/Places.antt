@@ -3,6 +3,7 @@ use Rattle.std.specs.Prelude.{ℕ, ◌≡◌, ◌<◌, ◌⊎◌, ◌↔◌, Boo
 use Rattle.std.specs.List.{Contains}
 use Rattle.loop_data.specs.declared.graph.Graph.{Graph}
 use Rattle.loop_data.specs.Paths.{addresses, Leads}
+use Rattle.loop_data.specs.Flows.{row_at}
 
 -- how many reached words there are
 abbrev pub count_of : Graph → ℕ
@@ -12,23 +13,11 @@ count_of G = length (addresses G)
 abbrev pub at : Graph → ℕ → ℕ
 at G i = slice_index (addresses G) i
 
--- the numbers in a row
-abbrev pub in_row : List (List ℕ) → ℕ → List ℕ
-in_row rows i = slice_index_or rows i []
-
--- the new rows are the old ones with a number more in the rows of some addresses
-pub record Added (addresses : List ℕ) (from : ℕ) (ys : List ℕ) (old new : List (List ℕ)) : Type 0 where
-  pub count : length new ≡ length old
-  pub kept : (j k : ℕ) → Contains (in_row old j) k → Contains (in_row new j) k
-  pub each : (j k : ℕ) → Contains (in_row new j) k → Contains (in_row old j) k
-      ⊎ ((k ≡ from) × (j < length addresses) × Contains ys (slice_index addresses j))
-  pub every : (j : ℕ) → j < length addresses → Contains ys (slice_index addresses j) → Contains (in_row new j) from
-
 -- each row has the places below i of the words that lead to the word at its place
-pub record HasSources (G : Graph) (i : ℕ) (rows : List (List ℕ)) : Type 0 where
+pub record HasPredecessors (G : Graph) (i : ℕ) (rows : List (List ℕ)) : Type 0 where
   pub count : length rows ≡ count_of G
-  pub each : (j k : ℕ) → Contains (in_row rows j) k → (k < i) × Leads G (at G k) (at G j)
-  pub every : (j k : ℕ) → k < i → j < count_of G → Leads G (at G k) (at G j) → Contains (in_row rows j) k
+  pub each : (j k : ℕ) → Contains (row_at rows j) k → (k < i) × Leads G (at G k) (at G j)
+  pub every : (j k : ℕ) → k < i → j < count_of G → Leads G (at G k) (at G j) → Contains (row_at rows j) k
 
 -- the flags tell which words are in the set
 pub record AreFlags (G : Graph) (P : ℕ → Type 0) (flags : List Bool) : Type 0 where

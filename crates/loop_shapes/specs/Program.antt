@@ -5,11 +5,11 @@ use Rattle.loop_shapes.specs.Net.{IsNet, graph_of}
 use Rattle.loop_shapes.specs.Around.{AreAround}
 use Rattle.loop_shapes.specs.Numbers.{AreNodes}
 use Rattle.loop_shapes.specs.Open.{AreOpen}
-use Rattle.loop_shapes.specs.Rows.{rows}
 use Rattle.loop_shapes.specs.Astray.{LeadsAstray}
 use Rattle.loop_shapes.specs.Places.{AreFlags}
 use Rattle.loop_shapes.specs.Lines.{AreRowsOf}
 use Rattle.loop_data.specs.Bodies.{IsClosed}
+use Rattle.loop_data.specs.Flows.{rows}
 
 -- the graph of the program
 abbrev pub program_graph : Program → Graph

@@ -3,7 +3,8 @@ use Rattle.std.specs.Prelude.{ℕ, ◌≡◌, ◌≢◌, ◌<◌, ◌≤◌, ◌
 use Rattle.std.specs.List.{Contains}
 use Rattle.loop_data.specs.Paths.{Reaches}
 use Rattle.loop_shapes.specs.Sets.{HasOver}
-use Rattle.loop_shapes.specs.Places.{in_row}
+use Rattle.loop_shapes.specs.Gains.{HasAll}
+use Rattle.loop_data.specs.Flows.{row_at}
 
 -- each number found stands at its slot
 pub record IsIndexed (found slots : List ℕ) : Type 0 where
@@ -40,13 +41,9 @@ pub record HasNoRoom (old xs found slots : List ℕ) : Type 0 where
 abbrev pub HasTried : Bool → List ℕ → List ℕ → List ℕ → List ℕ → Type 0
 HasTried room old xs found slots = MatchBool room (HasRoom old xs found slots) (HasNoRoom old xs found slots)
 
--- the rows have places of rows
-abbrev pub AreWithin : List (List ℕ) → Type 0
-AreWithin rows = (j i : ℕ) → Contains (in_row rows j) i → i < length rows
-
 -- the word at one place leads to that at another
 abbrev pub RowLeads : List (List ℕ) → ℕ → ℕ → Type 0
-RowLeads rows i j = Contains (in_row rows j) i
+RowLeads rows i j = Contains (row_at rows j) i
 
 -- from i one of some places is reached without passing h
 pub record ReachesOne (rows : List (List ℕ)) (h : ℕ) (us : List ℕ) (i : ℕ) : Type 0 where
@@ -58,13 +55,11 @@ pub record ReachesOne (rows : List (List ℕ)) (h : ℕ) (us : List ℕ) (i : �
 abbrev pub InPlaces : List (List ℕ) → ℕ → List ℕ → ℕ → Type 0
 InPlaces rows h us i = (i ≡ h) ⊎ ReachesOne rows h us i
 
--- exactly those places, each once
-pub record ArePlaces (P : ℕ → Type 0) (found : List ℕ) : Type 0 where
-  pub bound : length found ≤ 256
-  pub each : (i : ℕ) → Contains found i → P i
-  pub every : (i : ℕ) → P i → Contains found i
+-- at most 256 places, those of a set
+abbrev pub AreFew : (ℕ → Type 0) → List ℕ → Type 0
+AreFew P found = (length found ≤ 256) × HasAll P found
 
 -- what a search finds
 abbrev pub HasSearched : Bool → List (List ℕ) → ℕ → List ℕ → List ℕ → Type 0
-HasSearched small rows h us found = MatchBool small (ArePlaces (InPlaces rows h us) found)
+HasSearched small rows h us found = MatchBool small (AreFew (InPlaces rows h us) found)
     (HasOver 256 (InPlaces rows h us))

@@ -1,11 +1,11 @@
 ghost use Rattle.std.specs.Prelude.{◌≡◌, ◌<◌, ◌++◌, ℕ, IfOk, OnOk, length, map, slice_index};
 ghost use Rattle.std.specs.List.{Contains};
 ghost use Rattle.loop_data.specs.Bodies.{IsClosed, InBody, InPart};
-ghost use Rattle.loop_shapes.specs.Net.{IsNet, IsAmong, IsUnion, graph_of};
+ghost use Rattle.loop_shapes.specs.Net.{IsNet, IsAmong, IsPartOf, graph_of};
 ghost use Rattle.loop_shapes.specs.Places.{at, count_of};
 ghost use Rattle.loop_data.specs.Sets.{IsListOf};
 ghost use Rattle.loop_shapes.specs.Lines.{IsRowOf};
-ghost use Rattle.loop_shapes.specs.Gains.{Gained};
+ghost use Rattle.loop_shapes.specs.Gains.{Gained, HasAll};
 
 use crate::closed::part;
 use crate::net::Net;
@@ -66,7 +66,7 @@ fn all_parts(
     requires count { length slots.old ≡ count_of (graph_of net.now) }
     requires header { header < count_of (graph_of net.now) }
     requires closed { IsRowOf (graph_of net.now) (IsClosed (graph_of net.now)) header closed.now }
-    ensures { IfOk result (λ v. IsUnion (graph_of net.now) header closed.now v.items) }
+    ensures { IfOk result (λ v. HasAll (IsPartOf (graph_of net.now) header closed.now) v.items) }
 {
     let mut all = Vec::new(alloc);
     for source in closed {

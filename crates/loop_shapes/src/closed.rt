@@ -5,15 +5,15 @@ ghost use Rattle.loop_data.specs.Bodies.{IsClosed, InBody};
 ghost use Rattle.loop_shapes.specs.Net.{IsNet, IsOnlyEntry, IsPart, HasPart, HasTriedEdge, graph_of};
 ghost use Rattle.loop_data.specs.Paths.{Leads};
 ghost use Rattle.loop_shapes.specs.Places.{at, count_of};
-ghost use Rattle.loop_shapes.specs.Rows.{rows};
 ghost use Rattle.loop_shapes.specs.Search.{IsIndexed};
 ghost use Rattle.loop_data.specs.Sets.{IsListOf};
 ghost use Rattle.loop_shapes.specs.Lines.{AreRowsOf, IsRowOf};
+ghost use Rattle.loop_data.specs.Flows.{rows};
 
 use crate::around::{Around, settle};
 use crate::net::Net;
-use crate::places::row_at;
 use crate::search::search;
+use loop_data::flow;
 use std::alloc::{AllocError, Global};
 
 /// Whether the words that an edge closes into a loop are at most 256; `found` then has their places.
@@ -116,7 +116,7 @@ fn closed_row(
     ensures around { OnOk result (AreAroundSoFar (graph_of net.now) (header + 1) [] around.new) }
 {
     let mut row = Vec::new(alloc);
-    for source in row_at(net.before.as_slice(), header) {
+    for source in flow::row(net.before.as_slice(), header) {
         add_closed(net, slots, found, around, &mut row, header, *source)?;
     }
     Ok(row)

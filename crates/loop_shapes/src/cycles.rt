@@ -8,7 +8,7 @@ ghost use Rattle.loop_shapes.specs.Places.{count_of};
 
 use crate::loop_body::LoopBody;
 use crate::place_set::PlaceSet;
-use crate::places::row_at;
+use loop_data::flow;
 use std::alloc::AllocError;
 
 // Whether the word at a place is in a loop and not gone.
@@ -105,7 +105,7 @@ pub fn is_acyclic(body: &LoopBody, gone: &mut PlaceSet) -> Result<bool, AllocErr
             return Ok(true);
         }
         let at = gone.found[next];
-        take_out_all(body, gone, row_at(body.program.net.before.as_slice(), at))?;
+        take_out_all(body, gone, flow::row(body.program.net.before.as_slice(), at))?;
         next += 1;
     }
     Ok(gone.found.len() == body.places.len())

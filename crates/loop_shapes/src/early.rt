@@ -2,7 +2,7 @@ ghost use Rattle.std.specs.Prelude.{◌≡◌, ◌<◌, ◌≤◌, ℕ, IfOk, Is
 ghost use Rattle.std.specs.List.{Contains};
 ghost use Rattle.loop_data.specs.Bodies.{InBody, IsHeader};
 ghost use Rattle.loop_data.specs.Early.{IsMisshapen, IsPlain, IsShort, IsEarly};
-ghost use Rattle.loop_shapes.specs.Marks.{AreMarks, IsFirst};
+ghost use Rattle.loop_shapes.specs.Marks.{AreWordMarks, IsFirst};
 ghost use Rattle.loop_shapes.specs.Net.{IsNet, AreAt, graph_of};
 ghost use Rattle.loop_shapes.specs.Outer.{AreKnown, IsClean};
 ghost use Rattle.loop_shapes.specs.Places.{at, count_of};
@@ -38,7 +38,7 @@ pub fn early_verdict(
     clean: bool,
 ) -> Option<Verdict>
     requires net { IsNet net.now }
-    requires marks { AreMarks (graph_of net.now) marks.now }
+    requires marks { AreWordMarks (graph_of net.now) marks.now }
     requires body { AreAt (graph_of net.now) (InBody (graph_of net.now) header) found.now }
     requires short { length found.now ≤ 256 }
     requires clean { IsTrue clean → IsClean (graph_of net.now) header }
@@ -70,7 +70,7 @@ pub fn early_verdict(
 /// Whether it is known that neither the words nor the inner loops of the loop at a place decide a verdict.
 pub fn is_clean(program: &Program, marks: &Marks, place: usize) -> bool
     requires program { IsProgram program.now }
-    requires marks { AreMarks (program_graph program.now) marks.now }
+    requires marks { AreWordMarks (program_graph program.now) marks.now }
     requires within { place < count_of (program_graph program.now) }
     ensures { IsTrue result → IsHeader (program_graph program.now) (at (program_graph program.now) place)
         → IsShort (program_graph program.now) (at (program_graph program.now) place)
@@ -88,7 +88,7 @@ fn is_clean_outer(
     place: usize,
 ) -> Result<bool, AllocError>
     requires program { IsProgram program.now }
-    requires marks { AreMarks (program_graph program.now) marks.now }
+    requires marks { AreWordMarks (program_graph program.now) marks.now }
     requires count { length slots.old ≡ count_of (program_graph program.now) }
     requires within { place < count_of (program_graph program.now) }
     ensures { IfOk result (λ b. IsTrue b → IsClean (program_graph program.now) (at (program_graph program.now) place)) }
@@ -115,7 +115,7 @@ pub fn clean_flags(
     found: &mut Vec<usize>,
 ) -> Result<Vec<bool>, AllocError>
     requires program { IsProgram program.now }
-    requires marks { AreMarks (program_graph program.now) marks.now }
+    requires marks { AreWordMarks (program_graph program.now) marks.now }
     requires count { length slots.old ≡ count_of (program_graph program.now) }
     ensures { IfOk result (λ v. AreKnown (program_graph program.now) (IsClean (program_graph program.now)) v.items) }
 {
@@ -135,9 +135,9 @@ pub fn with_clean(
     found: &mut Vec<usize>,
 ) -> Result<Marks, AllocError>
     requires program { IsProgram program.now }
-    requires marks { AreMarks (program_graph program.now) marks }
+    requires marks { AreWordMarks (program_graph program.now) marks }
     requires count { length slots.old ≡ count_of (program_graph program.now) }
-    ensures { IfOk result (AreMarks (program_graph program.now)) }
+    ensures { IfOk result (AreWordMarks (program_graph program.now)) }
 {
     let clean = clean_flags(alloc, program, &marks, slots, found)?;
     marks.clean = clean;

@@ -1,5 +1,5 @@
 ghost use Rattle.std.specs.Prelude.{◌≡◌, ◌↔◌, IfSome, IfNone, IsTrue, ℕ};
-ghost use Rattle.loop_shapes.specs.Class.{HasClass, HasPairing, class_of, does_of};
+ghost use Rattle.loop_shapes.specs.Class.{IsWordOfClass, HasPairing, class_of, does_of};
 ghost use Rattle.loop_data.specs.Instructions.{IsPaired};
 ghost use Rattle.loop_shapes.specs.Kinds.{HasKind};
 ghost use Rattle.loop_shapes.specs.Net.{IsNet, graph_of};
@@ -8,7 +8,7 @@ ghost use Rattle.rv64_decode.specs.Table.{decoded};
 ghost use Rattle.rv64_decode.specs.Fields.{rd_of, rs1_of};
 
 use crate::net::Net;
-use crate::places::place_of;
+use loop_data::flow::place_of;
 use rv64_decode::{Instr, UpperOp, decode};
 
 /// What a word does that a loop may not do, or must do to leave.
@@ -85,7 +85,7 @@ fn class_of_word(bits: u32) -> Class
 // The class of the word at an address.
 fn class_at(net: &Net, x: u64) -> Option<Class>
     requires { IsNet net.now }
-    ensures found { IfSome result (HasClass (graph_of net.now) x) }
+    ensures found { IfSome result (IsWordOfClass (graph_of net.now) x) }
     ensures none { IfNone result (¬ IsWord (graph_of net.now) x) }
 {
     let place = place_of(net.at.as_slice(), x)?;

@@ -2,7 +2,7 @@ ghost use Rattle.std.specs.Prelude.{◌≡◌, ◌<◌, ℕ, IfOk, OnOk, length,
 ghost use Rattle.std.specs.List.{Contains};
 ghost use Rattle.loop_data.specs.Bodies.{IsHeader, InBody};
 ghost use Rattle.loop_data.specs.Loops.{IsLevel, AreLevels, IsSoundNest, IsLoop};
-ghost use Rattle.loop_shapes.specs.Marks.{AreMarks};
+ghost use Rattle.loop_shapes.specs.Marks.{AreWordMarks};
 ghost use Rattle.loop_shapes.specs.PlaceSet.{IsPlaceSet};
 ghost use Rattle.loop_shapes.specs.Places.{at, count_of};
 ghost use Rattle.loop_shapes.specs.Program.{IsProgram, program_graph};
@@ -116,7 +116,7 @@ pub fn loop_at(
     requires program { IsProgram program.now }
     requires count { length slots.old ≡ count_of (program_graph program.now) }
     requires others { IsPlaceSet (count_of (program_graph program.now)) others.old }
-    requires marks { AreMarks (program_graph program.now) marks.now }
+    requires marks { AreWordMarks (program_graph program.now) marks.now }
     requires within { place < count_of (program_graph program.now) }
     requires header { IsHeader (program_graph program.now) (at (program_graph program.now) place) }
     ensures header { IfOk result (λ s. s.header ≡ at (program_graph program.now) place) }

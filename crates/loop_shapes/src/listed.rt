@@ -7,10 +7,10 @@ ghost use Rattle.loop_data.specs.Listed.{IsListed};
 ghost use Rattle.loop_shapes.specs.Numbers.{AreNumbers};
 ghost use Rattle.loop_shapes.specs.Places.{at, count_of};
 ghost use Rattle.loop_shapes.specs.Program.{IsProgram, program_graph};
-ghost use Rattle.loop_shapes.specs.Rows.{rows};
+ghost use Rattle.loop_data.specs.Flows.{rows};
 
-use crate::places::row_at;
 use crate::program::{Program, is_header_at};
+use loop_data::flow;
 use std::alloc::{AllocError, Global};
 
 // Whether a loop has the words at two places.
@@ -76,7 +76,7 @@ fn listed_row(
     if is_header_at(program, to) {
         return Ok(all);
     }
-    for from in row_at(program.net.before.as_slice(), to) {
+    for from in flow::row(program.net.before.as_slice(), to) {
         add_listed(program, numbers, to, *from, &mut all)?;
     }
     Ok(all)

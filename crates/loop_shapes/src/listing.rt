@@ -1,7 +1,7 @@
 ghost use Rattle.std.specs.Prelude.{◌≡◌, ◌<◌, ◌+◌, ◌^◌, ℕ, IfOk, OnOk, length};
 ghost use Rattle.loop_shapes.specs.Below.{HasShapeAt, AreLoopsBelow};
 ghost use Rattle.loop_shapes.specs.Lines.{AreRowsOf};
-ghost use Rattle.loop_shapes.specs.Marks.{AreMarks};
+ghost use Rattle.loop_shapes.specs.Marks.{AreWordMarks};
 ghost use Rattle.loop_data.specs.Listed.{IsListed};
 ghost use Rattle.loop_data.specs.Loops.{AreLoops};
 ghost use Rattle.loop_shapes.specs.Net.{IsNet, graph_of};
@@ -9,8 +9,8 @@ ghost use Rattle.loop_data.specs.Paths.{IsInOrder};
 ghost use Rattle.loop_shapes.specs.PlaceSet.{IsPlaceSet};
 ghost use Rattle.loop_shapes.specs.Places.{at, count_of};
 ghost use Rattle.loop_shapes.specs.Program.{IsProgram, program_graph};
-ghost use Rattle.loop_shapes.specs.Rows.{rows};
 ghost use Rattle.loop_data.specs.Starts.{AreFromStarts};
+ghost use Rattle.loop_data.specs.Flows.{rows};
 
 use crate::early::with_clean;
 use crate::levels::{judged, loop_at};
@@ -21,9 +21,8 @@ use crate::nest::shape_flags;
 use crate::net::{Net, address_of, net_of};
 use crate::numbers::numbers_of;
 use crate::place_set::PlaceSet;
-use crate::places::row_at;
 use crate::program::{Program, is_header_at, program_of};
-use loop_data::{Graph, LoopShape};
+use loop_data::{Graph, LoopShape, flow};
 use std::alloc::{AllocError, Global};
 
 // The listed loop at a word, where there is one.
@@ -38,7 +37,7 @@ fn shape_at(
     place: usize,
 ) -> Result<Option<LoopShape>, AllocError>
     requires program { IsProgram program.now }
-    requires marks { AreMarks (program_graph program.now) marks.now }
+    requires marks { AreWordMarks (program_graph program.now) marks.now }
     requires listed { AreRowsOf (program_graph program.now) (IsListed (program_graph program.now)) (rows listed.now) }
     requires count { length slots.old ≡ count_of (program_graph program.now) }
     requires others { IsPlaceSet (count_of (program_graph program.now)) others.old }
@@ -57,7 +56,7 @@ fn shape_at(
         slots,
         found,
         place,
-        row_at(listed, place),
+        flow::row(listed, place),
     )? {
         Some(verdict) => Ok(Some(judged(alloc, x, verdict))),
         None => Ok(None),
@@ -77,7 +76,7 @@ fn add_shape(
     all: &mut Vec<LoopShape>,
 ) -> Result<(), AllocError>
     requires program { IsProgram program.now }
-    requires marks { AreMarks (program_graph program.now) marks.now }
+    requires marks { AreWordMarks (program_graph program.now) marks.now }
     requires listed { AreRowsOf (program_graph program.now) (IsListed (program_graph program.now)) (rows listed.now) }
     requires count { length slots.old ≡ count_of (program_graph program.now) }
     requires others { IsPlaceSet (count_of (program_graph program.now)) others.old }

@@ -3,19 +3,20 @@ ghost use Rattle.std.specs.Prelude.{slice_index_or, false};
 ghost use Rattle.std.specs.List.{Contains};
 ghost use Rattle.loop_data.specs.Bodies.{IsHeader};
 ghost use Rattle.loop_shapes.specs.Kinds.{HasKind};
-ghost use Rattle.loop_shapes.specs.Marks.{AreMarks, ArePlacesShaped, lesser_of};
-ghost use Rattle.loop_shapes.specs.Outer.{AreKnown, IsSet, IsSound, IsUnsound};
+ghost use Rattle.loop_shapes.specs.Marks.{AreWordMarks, ArePlacesShaped, lesser_of};
+ghost use Rattle.loop_shapes.specs.Outer.{AreKnown, IsSound, IsUnsound};
 ghost use Rattle.loop_shapes.specs.Net.{IsNet, graph_of};
 ghost use Rattle.loop_shapes.specs.Places.{AreFlags, at, count_of};
 ghost use Rattle.loop_shapes.specs.Program.{IsProgram, program_graph};
 ghost use Rattle.loop_data.specs.Sets.{IsLeast};
 ghost use Rattle.loop_data.specs.Shape.{IsShaped};
+ghost use Rattle.loop_data.specs.Flows.{IsSet};
 
 use crate::kind::{Kind, has_kind};
 use crate::net::{Net, address_of};
 use crate::outer::{is_outer, is_under};
-use crate::places::unset_flags;
 use crate::program::{Program, find_body, is_header_at};
+use loop_data::flow::unset_flags;
 use std::alloc::{AllocError, Global};
 
 /// What is known of each word.
@@ -205,7 +206,7 @@ pub fn marks_of(
     requires program { IsProgram program.now }
     requires flags { AreFlags (program_graph program.now) (IsShaped (program_graph program.now)) shaped.now }
     requires count { length slots.old ≡ count_of (program_graph program.now) }
-    ensures { IfOk result (AreMarks (program_graph program.now)) }
+    ensures { IfOk result (AreWordMarks (program_graph program.now)) }
 {
     let net = &program.net;
     Ok(Marks {

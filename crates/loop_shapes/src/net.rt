@@ -5,8 +5,9 @@ ghost use Rattle.loop_shapes.specs.Places.{at, count_of};
 ghost use Rattle.loop_data.specs.Starts.{AreFromStarts};
 ghost use Rattle.std.specs.Prelude.{◌≡◌, ◌<◌, IfOk, IfSome, IfNone};
 
-use crate::places::{address_list, place_of, sources, start_flags};
+use crate::places::{address_list, sources, start_flags};
 use loop_data::Graph;
+use loop_data::flow::place_of;
 use std::alloc::{AllocError, Global};
 
 /// A graph with what is looked up in it, by the places of its words in address order.

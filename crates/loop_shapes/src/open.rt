@@ -1,10 +1,10 @@
 ghost use Rattle.std.specs.Prelude.{◌≡◌, ◌≢◌, ◌↔◌, ◌<◌, ℕ, IfOk, Some, length};
 ghost use Rattle.std.specs.List.{Contains};
 ghost use Rattle.loop_shapes.specs.Open.{IsCut, AreCut};
-ghost use Rattle.loop_shapes.specs.Rows.{rows, row};
 ghost use Rattle.strong_components.specs.Graph.{LeadsTo};
+ghost use Rattle.loop_data.specs.Flows.{row_at, rows};
 
-use crate::places::row_at;
+use loop_data::flow;
 use std::alloc::{AllocError, Global};
 use strong_components::Successors;
 
@@ -51,12 +51,12 @@ pub fn without(
     nodes: &[Successors],
     all: &[Vec<usize>],
 ) -> Result<Vec<Successors>, AllocError>
-    requires { (a b : ℕ) → Contains (row all.now b) a → a < length nodes.now }
+    requires { (a b : ℕ) → Contains (row_at (rows all.now) b) a → a < length nodes.now }
     ensures { IfOk result (λ v. AreCut (rows all.now) nodes.now v.items) }
 {
     let mut left = Vec::from_slice(alloc, nodes)?;
     for to in 0..all.len() {
-        cut_all(&mut left, to, row_at(all, to));
+        cut_all(&mut left, to, flow::row(all, to));
     }
     Ok(left)
 }

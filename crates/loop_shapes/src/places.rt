@@ -3,36 +3,18 @@ ghost use Rattle.std.specs.Prelude.{vec_len, slice_index, slice_index_or, ◌↔
 ghost use Rattle.std.specs.List.{Contains};
 ghost use Rattle.std.specs.List.Sorted.{IsStrictlyIncreasing};
 ghost use Rattle.loop_data.specs.Paths.{addresses, IsInOrder};
-ghost use Rattle.loop_shapes.specs.Places.{Added, HasSources, AreFlags, Marked, count_of};
-ghost use Rattle.loop_shapes.specs.Rows.{rows, row};
+ghost use Rattle.loop_shapes.specs.Places.{HasPredecessors, AreFlags, Marked, count_of};
+ghost use Rattle.loop_data.specs.Flows.{Added, row_at, rows};
 
-use loop_data::{Graph, Word};
+use loop_data::Graph;
+use loop_data::flow::{empty_rows, place_of, unset_flags};
 use std::alloc::{AllocError, Global};
-
-/// The place of an address.
-pub fn place_of(at: &[u64], x: u64) -> Option<usize>
-    requires { IsStrictlyIncreasing at.now }
-    ensures found { IfSome result (λ i. (i < length at.now) × (slice_index at.now i ≡ x)) }
-    ensures none { IfNone result (¬ Contains at.now x) }
-{
-    match at.binary_search(&x) {
-        Ok(i) => Some(i),
-        Err(_) => None,
-    }
-}
-
-/// The numbers of a row.
-pub fn row_at(all: &[Vec<usize>], i: usize) -> &[usize]
-    requires { i < length all.now }
-    ensures { result.now ≡ row all.now i }
-{
-    all[i].as_slice()
-}
 
 // Puts a number at the end of a row.
 fn add(before: &mut [Vec<usize>], to: usize, from: usize) -> Result<(), AllocError>
     requires { to < length before.old }
-    ensures ok { OnOk result (rows before.new ≡ slice_set (rows before.old) to (row before.old to ++ from ∷ [])) }
+    ensures ok { OnOk result (rows before.new
+        ≡ slice_set (rows before.old) to (row_at (rows before.old) to ++ from ∷ [])) }
 {
     before[to].push(from)?;
     Ok(())
@@ -42,7 +24,7 @@ fn add(before: &mut [Vec<usize>], to: usize, from: usize) -> Result<(), AllocErr
 fn add_step(before: &mut [Vec<usize>], at: &[u64], y: u64, from: usize) -> Result<(), AllocError>
     requires ordered { IsStrictlyIncreasing at.now }
     requires count { length before.old ≡ length at.now }
-    ensures { OnOk result (Added at.now from (y ∷ []) (rows before.old) (rows before.new)) }
+    ensures { OnOk result (Added at.now from (Contains (y ∷ [])) (rows before.old) (rows before.new)) }
 {
     match place_of(at, y) {
         Some(to) => add(before, to, from),
@@ -59,7 +41,7 @@ fn add_steps(
 ) -> Result<(), AllocError>
     requires ordered { IsStrictlyIncreasing at.now }
     requires count { length before.old ≡ length at.now }
-    ensures { OnOk result (Added at.now from steps.now (rows before.old) (rows before.new)) }
+    ensures { OnOk result (Added at.now from (Contains steps.now) (rows before.old) (rows before.new)) }
 {
     for y in steps {
         add_step(before, at, *y, from)?;
@@ -78,8 +60,8 @@ fn add_word(
     requires addresses { at.now ≡ addresses graph.now }
     requires count { length before.old ≡ length at.now }
     requires within { from < length at.now }
-    requires below { HasSources graph.now from (rows before.old) }
-    ensures { OnOk result (HasSources graph.now (from + 1) (rows before.new)) }
+    requires below { HasPredecessors graph.now from (rows before.old) }
+    ensures { OnOk result (HasPredecessors graph.now (from + 1) (rows before.new)) }
 {
     add_steps(
         before,
@@ -89,22 +71,11 @@ fn add_word(
     )
 }
 
-// Rows without numbers.
-fn empty_rows(alloc: Global, count: usize) -> Result<Vec<Vec<usize>>, AllocError>
-    ensures { IfOk result (λ v. rows v.items ≡ replicate count []) }
-{
-    let mut all = Vec::with_capacity(alloc, count)?;
-    for _ in 0..count {
-        all.push(Vec::new(alloc))?;
-    }
-    Ok(all)
-}
-
 /// For each word the places of the words that lead to it.
 pub fn sources(alloc: Global, graph: &Graph, at: &[u64]) -> Result<Vec<Vec<usize>>, AllocError>
     requires ordered { IsInOrder graph.now }
     requires addresses { at.now ≡ addresses graph.now }
-    ensures { IfOk result (λ v. HasSources graph.now (count_of graph.now) (rows v.items)) }
+    ensures { IfOk result (λ v. HasPredecessors graph.now (count_of graph.now) (rows v.items)) }
 {
     let mut before = empty_rows(alloc, at.len())?;
     for i in 0..at.len() {
@@ -141,17 +112,6 @@ fn mark_all(flags: &mut [bool], at: &[u64], graph: &Graph, xs: &[u64])
     for x in xs {
         mark(flags, at, *x);
     }
-}
-
-/// Flags that are not set.
-pub fn unset_flags(alloc: Global, count: usize) -> Result<Vec<bool>, AllocError>
-    ensures { IfOk result (λ v. v.items ≡ replicate count false) }
-{
-    let mut all = Vec::with_capacity(alloc, count)?;
-    for _ in 0..count {
-        all.push(false)?;
-    }
-    Ok(all)
 }
 
 /// Which words are start words.

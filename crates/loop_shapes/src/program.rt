@@ -16,8 +16,8 @@ use crate::closed::closed_rows;
 use crate::net::{Net, find};
 use crate::numbers::{astray_flags, nodes};
 use crate::open::without;
-use crate::places::{place_of, row_at};
 use crate::search::search;
+use loop_data::flow::{place_of, row};
 use std::alloc::{AllocError, Global};
 use strong_components::Successors;
 
@@ -101,7 +101,7 @@ pub fn sources_of<'a>(program: &'a Program, place: usize) -> &'a [usize]
     requires within { place < count_of (program_graph program.now) }
     ensures { IsRowOf (program_graph program.now) (IsClosed (program_graph program.now)) place result.now }
 {
-    row_at(program.closed.as_slice(), place)
+    row(program.closed.as_slice(), place)
 }
 
 /// Whether a loop stands at the word at a place.

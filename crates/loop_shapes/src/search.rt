@@ -1,8 +1,7 @@
 ghost use Rattle.std.specs.Prelude.{◌≡◌, ◌≢◌, ◌<◌, ◌≤◌, ◌+◌, ℕ, ◌++◌, ◌∷◌, [], length, IfOk, OnOk, IsTrue, ◌↔◌};
 ghost use Rattle.std.specs.List.{Contains};
-ghost use Rattle.loop_shapes.specs.Rows.{rows};
-ghost use Rattle.loop_shapes.specs.Search.{IsIndexed, HasTried, HasRoom, HasSearched, AreWithin};
-ghost use Rattle.loop_shapes.specs.Places.{in_row};
+ghost use Rattle.loop_shapes.specs.Search.{IsIndexed, HasTried, HasRoom, HasSearched};
+ghost use Rattle.loop_data.specs.Flows.{AreRowsWithin, row_at, rows};
 
 use std::alloc::AllocError;
 
@@ -71,13 +70,13 @@ fn add_row(
     found: &mut Vec<usize>,
     at: usize,
 ) -> Result<bool, AllocError>
-    requires within { AreWithin (rows before.now) }
+    requires within { AreRowsWithin (rows before.now) }
     requires count { length slots.old ≡ length before.now }
     requires at { at < length before.now }
     requires indexed { IsIndexed found.old.items slots.old }
     requires bound { length found.old.items ≤ 256 }
     ensures { IfOk result (λ room. HasTried room found.old.items
-        (in_row (rows before.now) at) found.new.items slots.new) }
+        (row_at (rows before.now) at) found.new.items slots.new) }
 {
     add_all(found, slots, before[at].as_slice())
 }
@@ -108,7 +107,7 @@ pub fn search(
     header: usize,
     sources: &[usize],
 ) -> Result<bool, AllocError>
-    requires within { AreWithin (rows before.now) }
+    requires within { AreRowsWithin (rows before.now) }
     requires count { length slots.old ≡ length before.now }
     requires header { header < length before.now }
     requires sources { (x : ℕ) → Contains sources.now x → x < length before.now }

@@ -1,7 +1,7 @@
 ghost use Rattle.std.specs.Prelude.{◌≡◌, ℕ, ◌↔◌, IfOk, OnOk, IsTrue, List};
 ghost use Rattle.std.specs.List.{Contains};
 ghost use Rattle.loop_shapes.specs.Gains.{Gained};
-ghost use Rattle.loop_shapes.specs.Outside.{IsOutside};
+ghost use Rattle.loop_shapes.specs.Difference.{InDifference};
 ghost use Rattle.loop_data.specs.Sets.{IsListOf};
 
 use crate::body::in_order;
@@ -21,7 +21,7 @@ fn add_outside(ys: &[u64], x: u64, all: &mut Vec<u64>) -> Result<(), AllocError>
 
 /// The addresses among `xs` that are not among `ys`, in order.
 pub fn minus(alloc: Global, xs: &[u64], ys: &[u64]) -> Result<Vec<u64>, AllocError>
-    ensures { IfOk result (λ v. IsListOf (IsOutside xs.now ys.now) v.items) }
+    ensures { IfOk result (λ v. IsListOf (InDifference xs.now ys.now) v.items) }
 {
     let mut all = Vec::new(alloc);
     for x in xs {

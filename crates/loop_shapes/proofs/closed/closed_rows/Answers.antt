@@ -2,17 +2,17 @@ use Rattle.std.proofs.Common.{◌≡◌, ◌<◌, ◌+◌, ℕ, List, ◌≤◌,
 use Rattle.std.specs.declared.vec.Vec.{Vec}
 use Rattle.std.specs.declared.alloc.Global.{Global}
 use Rattle.loop_shapes.specs.Net.{graph_of}
-use Rattle.loop_shapes.specs.Places.{in_row, count_of}
-use Rattle.loop_shapes.specs.Rows.{rows}
+use Rattle.loop_shapes.specs.Places.{count_of}
 use Rattle.loop_shapes.proofs.Rounds.{rounds_all}
 use Rattle.loop_shapes.proofs.ClosedRows.{rows_more}
 use Rattle.loop_shapes.proofs.closed.closed_rows.Goals as goal
 use Rattle.loop_shapes.specs.Lines.{IsRowOf}
 use Rattle.loop_data.specs.Bodies.{IsClosed}
+use Rattle.loop_data.specs.Flows.{row_at, rows}
 
 pub loop-header-preserved : goal.loop-header-preserved
 loop-header-preserved c = (
-  subst (λ (vs : List (Vec ℕ Global)). (length (rows vs) ≡ c.loop-header.header + 1) × ((j : ℕ) → j < c.loop-header.header + 1 → IsRowOf (graph_of c.args.net.now) (IsClosed (graph_of c.args.net.now)) j (in_row (rows vs) j))) (sym c.in_ok-push.ensures.items)
+  subst (λ (vs : List (Vec ℕ Global)). (length (rows vs) ≡ c.loop-header.header + 1) × ((j : ℕ) → j < c.loop-header.header + 1 → IsRowOf (graph_of c.args.net.now) (IsClosed (graph_of c.args.net.now)) j (row_at (rows vs) j))) (sym c.in_ok-push.ensures.items)
       (rows_more (IsRowOf (graph_of c.args.net.now) (IsClosed (graph_of c.args.net.now))) c.loop-header.all.items c.in_ok-closed_row.field-0 c.loop-header.header c.loop-header.invariant.0 c.in_ok-closed_row.ensures.closed),
   c.in_ok-closed_row.ensures.around,
 )

@@ -3,17 +3,17 @@ use Rattle.std.proofs.lemmas.List.{length-map}
 use Rattle.std.proofs.lemmas.Result.{IfOk-weaker}
 use Rattle.std.specs.declared.vec.Vec.{Vec}
 use Rattle.std.specs.declared.alloc.Global.{Global}
-use Rattle.loop_shapes.specs.Rows.{rows, items_of}
 use Rattle.loop_shapes.proofs.Rows.{alone}
-use Rattle.loop_shapes.specs.Search.{AreWithin, HasSearched}
+use Rattle.loop_shapes.specs.Search.{HasSearched}
 use Rattle.loop_shapes.specs.Net.{HasPart, graph_of}
 use Rattle.loop_shapes.proofs.Parts.{within, has_part}
 use Rattle.loop_shapes.proofs.closed.part.Goals as goal
+use Rattle.loop_data.specs.Flows.{AreRowsWithin, items_of, rows}
 
 pub search-requires-clause-within : goal.search-requires-clause-within
 search-requires-clause-within c =
     let n = c.requires.net in
-    subst (λ (vs : List (Vec ℕ Global)). AreWithin (rows vs)) (sym c.as_slice.ensures.value) (within (graph_of c.args.net.now) n.ordered (rows c.args.net.now.before.items) n.sources)
+    subst (λ (vs : List (Vec ℕ Global)). AreRowsWithin (rows vs)) (sym c.as_slice.ensures.value) (within (graph_of c.args.net.now) n.ordered (rows c.args.net.now.before.items) n.sources)
 
 pub search-requires-clause-sources : goal.search-requires-clause-sources
 search-requires-clause-sources c x m =

@@ -5,13 +5,12 @@ use Rattle.std.specs.declared.alloc.Global.{Global}
 use Rattle.std.proofs.lemmas.List.{get_or_default, length-map}
 use Rattle.std.proofs.lemmas.List.Elements.{Contains-get_or}
 use Rattle.loop_shapes.specs.LoopBody.{body_graph, header_of}
-use Rattle.loop_shapes.specs.Places.{in_row}
-use Rattle.loop_shapes.specs.Rows.{items_of, row, rows}
 use Rattle.loop_shapes.proofs.Gone.{taking_started, taking_more, no_more_gone}
 use Rattle.loop_shapes.proofs.PlaceCycles.{acyclic_by, as_many_gone}
 use Rattle.loop_shapes.proofs.Rounds.{same_test}
 use Rattle.loop_shapes.proofs.Searches.{apart_from_indexed}
 use Rattle.loop_shapes.proofs.cycles.is_acyclic.Goals as goal
+use Rattle.loop_data.specs.Flows.{items_of, row_at, rows}
 
 pub returns-then-body-clause-acyclic : goal.returns-then-body-clause-acyclic
 returns-then-body-clause-acyclic c = (λ _. c.requires.body.known c.if-body.true, λ _. refl)
@@ -31,8 +30,8 @@ returns-then-len-body-clause-acyclic c =
     let l : length c.args.body.now.places.now ≤ length gone = omega (arith, c.len-in-loop-next.ensures, c.loop-next.gone.found.ok.0) in
     (λ _. acyclic_by (body_graph c.args.body.now) (header_of c.args.body.now) c.args.body.now.program.now.open_next.items b.program.open_edges c.args.body.now.places.now b.words gone inv.1.are (apart_from_indexed gone c.loop-next.gone.slots.items inv.0.indexed) l, λ _. refl)
 
-pub row_at-requires : goal.row_at-requires
-row_at-requires c =
+pub row-requires : goal.row-requires
+row-requires c =
     let b = c.requires.body in
     let gone = c.loop-next.gone.found.items in
     let next = c.loop-next.next in
@@ -47,7 +46,7 @@ row_at-requires c =
 pub take_out_all-requires-in-loop-next-clause-within : goal.take_out_all-requires-in-loop-next-clause-within
 take_out_all-requires-in-loop-next-clause-within c i m =
     let at = c.index-at.result.now in
-    let same = c.row_at.ensures ∙ ap (λ (vs : List (Vec ℕ Global)). row vs at) c.as_slice.ensures.value in
+    let same = c.row.ensures ∙ ap (λ (vs : List (Vec ℕ Global)). row_at (rows vs) at) c.as_slice.ensures.value in
     (c.requires.body.program.net.sources.each at i (subst (λ (xs : List ℕ). Contains xs i) same m)).0
 
 pub loop-next-smaller : goal.loop-next-smaller
@@ -68,12 +67,12 @@ loop-next-preserved c =
     let inv = c.loop-next.invariant in
     let more : next < length gone = omega (arith, c.loop-next.gone.found.ok.0) in
     let at = c.index-at.ensures ∙ get_or_default gone next c.index-at.result.now 0 more in
-    let same = c.row_at.ensures ∙ ap (λ (vs : List (Vec ℕ Global)). row vs c.index-at.result.now) c.as_slice.ensures.value in (
+    let same = c.row.ensures ∙ ap (λ (vs : List (Vec ℕ Global)). row_at (rows vs) c.index-at.result.now) c.as_slice.ensures.value in (
       c.in_ok-take_out_all-2.ensures.gone,
-      taking_more nodes places (Contains c.row_at.result.now) next gone c.take_out_all-in-loop-next.new.gone.found.items more (λ i m e.
+      taking_more nodes places (Contains c.row.result.now) next gone c.take_out_all-in-loop-next.new.gone.found.items more (λ i m e.
           let o = (b.program.open_edges.each i (get_or gone next 0)).0 e in
           let s = b.program.net.sources.every (get_or gone next 0) i o.0 o.1 o.2.edge in
-          subst (λ (xs : List ℕ). Contains xs i) (sym same) (subst (λ (z : ℕ). Contains (in_row (rows c.args.body.now.program.now.net.before.items) z) i) (sym at) s)) inv.1 c.in_ok-take_out_all-2.ensures.more,
+          subst (λ (xs : List ℕ). Contains xs i) (sym same) (subst (λ (z : ℕ). Contains (row_at (rows c.args.body.now.program.now.net.before.items) z) i) (sym at) s)) inv.1 c.in_ok-take_out_all-2.ensures.more,
     )
 
 pub returns-clause-acyclic : goal.returns-clause-acyclic

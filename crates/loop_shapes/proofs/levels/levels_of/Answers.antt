@@ -3,7 +3,7 @@ use Rattle.std.specs.List.{Contains}
 use Rattle.std.proofs.lemmas.List.Elements.{Contains-get_or, All-nil}
 use Rattle.loop_data.specs.declared.shape.Level.{Level}
 use Rattle.loop_data.specs.Loops.{IsLevel}
-use Rattle.loop_shapes.specs.Outside.{IsOutside}
+use Rattle.loop_shapes.specs.Difference.{InDifference}
 use Rattle.loop_shapes.specs.Program.{program_graph}
 use Rattle.loop_data.specs.Sets.{IsListOf}
 use Rattle.loop_shapes.proofs.LevelLists.{level_push, level_more, levels_by}
@@ -32,4 +32,4 @@ pub returns-clause-levels : goal.returns-clause-levels
 returns-clause-levels c =
     let G = program_graph c.args.program.now in
     let h = c.args.header in
-    levels_by G h c.args.nest.now c.as_slice-x-items.result.now c.loop-x.x-index c.loop-x.all.items c.requires.is (subst (IsListOf (IsOutside c.args.nest.now (h ∷ []))) (sym c.as_slice-x-items.ensures.value) c.in_ok-inner.ensures) c.loop-x-test.false c.loop-x.invariant.1
+    levels_by G h c.args.nest.now c.as_slice-x-items.result.now c.loop-x.x-index c.loop-x.all.items c.requires.is (subst (IsListOf (InDifference c.args.nest.now (h ∷ []))) (sym c.as_slice-x-items.ensures.value) c.in_ok-inner.ensures) c.loop-x-test.false c.loop-x.invariant.1

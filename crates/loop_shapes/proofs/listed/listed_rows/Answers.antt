@@ -3,16 +3,16 @@ use Rattle.std.specs.declared.vec.Vec.{Vec}
 use Rattle.std.specs.declared.alloc.Global.{Global}
 use Rattle.loop_data.specs.Listed.{IsListed}
 use Rattle.loop_shapes.specs.Lines.{IsRowOf}
-use Rattle.loop_shapes.specs.Places.{in_row, count_of}
+use Rattle.loop_shapes.specs.Places.{count_of}
 use Rattle.loop_shapes.specs.Program.{program_graph}
-use Rattle.loop_shapes.specs.Rows.{rows}
 use Rattle.loop_shapes.proofs.ClosedRows.{rows_more}
 use Rattle.loop_shapes.proofs.listed.listed_rows.Goals as goal
+use Rattle.loop_data.specs.Flows.{row_at, rows}
 
 pub loop-to-preserved : goal.loop-to-preserved
 loop-to-preserved c =
     let G = program_graph c.args.program.now in
-    subst (λ (vs : List (Vec ℕ Global)). (length (rows vs) ≡ c.loop-to.to + 1) × ((g : ℕ) → g < c.loop-to.to + 1 → IsRowOf G (IsListed G) g (in_row (rows vs) g))) (sym c.in_ok-push.ensures.items) (rows_more (IsRowOf G (IsListed G)) c.loop-to.all.items c.in_ok-listed_row.field-0 c.loop-to.to c.loop-to.invariant c.in_ok-listed_row.ensures)
+    subst (λ (vs : List (Vec ℕ Global)). (length (rows vs) ≡ c.loop-to.to + 1) × ((g : ℕ) → g < c.loop-to.to + 1 → IsRowOf G (IsListed G) g (row_at (rows vs) g))) (sym c.in_ok-push.ensures.items) (rows_more (IsRowOf G (IsListed G)) c.loop-to.all.items c.in_ok-listed_row.field-0 c.loop-to.to c.loop-to.invariant c.in_ok-listed_row.ensures)
 
 pub returns : goal.returns
 returns c =

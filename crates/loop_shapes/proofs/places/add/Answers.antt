@@ -2,8 +2,8 @@ use Rattle.std.proofs.Common.{◌++◌, ◌∷◌, [], List, ℕ, slice_set, ap,
 use Rattle.std.specs.declared.vec.Vec.{Vec}
 use Rattle.std.specs.declared.alloc.Global.{Global}
 use Rattle.std.proofs.lemmas.List.{map-set, get_or-map}
-use Rattle.loop_shapes.specs.Rows.{rows}
 use Rattle.loop_shapes.proofs.places.add.Goals as goal
+use Rattle.loop_data.specs.Flows.{rows}
 
 pub returns : goal.returns
 returns c =

@@ -1,9 +1,9 @@
 use Rattle.std.proofs.Common.{◌∙◌}
 use Rattle.std.proofs.lemmas.List.{length-map}
 use Rattle.std.proofs.lemmas.Result.{on_ok_weaker}
-use Rattle.loop_shapes.specs.Rows.{rows, items_of}
 use Rattle.loop_shapes.proofs.Rows.{added_at, added_nowhere}
 use Rattle.loop_shapes.proofs.places.add_step.Goals as goal
+use Rattle.loop_data.specs.Flows.{items_of, rows}
 
 pub returns-in-Some : goal.returns-in-Some
 returns-in-Some c =

@@ -4,18 +4,18 @@ use Rattle.std.proofs.lemmas.List.{length-map}
 use Rattle.std.proofs.lemmas.Result.{IfOk-weaker}
 use Rattle.std.specs.declared.vec.Vec.{Vec}
 use Rattle.std.specs.declared.alloc.Global.{Global}
-use Rattle.loop_shapes.specs.Rows.{rows, items_of}
-use Rattle.loop_shapes.specs.Search.{AreWithin, HasSearched}
+use Rattle.loop_shapes.specs.Search.{HasSearched}
 use Rattle.loop_shapes.specs.Net.{HasBody}
 use Rattle.loop_shapes.specs.Places.{at}
 use Rattle.loop_shapes.specs.Program.{program_graph}
 use Rattle.loop_shapes.proofs.Parts.{within, has_body}
 use Rattle.loop_shapes.proofs.program.find_body.Goals as goal
+use Rattle.loop_data.specs.Flows.{AreRowsWithin, items_of, rows}
 
 pub search-requires-clause-within : goal.search-requires-clause-within
 search-requires-clause-within c =
     let n = c.requires.program.net in
-    subst (λ (vs : List (Vec ℕ Global)). AreWithin (rows vs)) (sym c.as_slice.ensures.value) (within (program_graph c.args.program.now) n.ordered (rows c.args.program.now.net.before.items) n.sources)
+    subst (λ (vs : List (Vec ℕ Global)). AreRowsWithin (rows vs)) (sym c.as_slice.ensures.value) (within (program_graph c.args.program.now) n.ordered (rows c.args.program.now.net.before.items) n.sources)
 
 pub search-requires-clause-sources : goal.search-requires-clause-sources
 search-requires-clause-sources c x m =

@@ -5,12 +5,12 @@ use Rattle.std.specs.declared.alloc.Global.{Global}
 use Rattle.strong_components.specs.declared.graph.Successors.{Successors}
 use Rattle.loop_shapes.specs.Net.{graph_of}
 use Rattle.loop_shapes.specs.Open.{AreCut}
-use Rattle.loop_shapes.specs.Rows.{rows, row}
 use Rattle.loop_shapes.proofs.Cutting.{open_by}
 use Rattle.loop_shapes.proofs.Parts.{row_within}
 use Rattle.loop_shapes.specs.Places.{count_of}
 use Rattle.loop_shapes.proofs.Rounds.{no_rounds}
 use Rattle.loop_shapes.proofs.program.program_of.Goals as goal
+use Rattle.loop_data.specs.Flows.{row_at, rows}
 
 pub closed_rows-requires-clause-around : goal.closed_rows-requires-clause-around
 closed_rows-requires-clause-around c =
@@ -24,7 +24,7 @@ pub without-requires : goal.without-requires
 without-requires c a b m =
     let G = graph_of c.args.net in
     let h = c.in_ok-closed.ensures.closed in
-    let x = subst (λ (vs : List (Vec ℕ Global)). Contains (row vs b) a) c.as_slice-2.ensures.value m in
+    let x = subst (λ (vs : List (Vec ℕ Global)). Contains (row_at (rows vs) b) a) c.as_slice-2.ensures.value m in
     let l = row_within (rows c.in_ok-closed.closed.items) b a x in
     let n = h.count in
     let k = ((h.each b (omega arith)).each a x).0 in

@@ -1,9 +1,9 @@
 use Rattle.std.proofs.Common.{List, ℕ, ◌∙◌, subst, arith}
 use Rattle.std.specs.List.{Contains}
 use Rattle.std.proofs.lemmas.List.{length-map}
-use Rattle.loop_shapes.specs.Rows.{items_of}
-use Rattle.loop_shapes.proofs.Rows.{row_read}
+use Rattle.loop_data.proofs.FlowRows.{row_read}
 use Rattle.loop_shapes.proofs.search.add_row.Goals as goal
+use Rattle.loop_data.specs.Flows.{items_of}
 
 pub add_all-requires-clause-within : goal.add_all-requires-clause-within
 add_all-requires-clause-within c x m =

@@ -1,10 +1,9 @@
 use Rattle.std.proofs.Common.{ℕ, List, length, get_or, ◌∙◌, ◌≡◌, ◌<◌, subst, arith}
 use Rattle.std.proofs.lemmas.List.{get_or_default}
-use Rattle.loop_shapes.specs.Rows.{rows}
-use Rattle.loop_shapes.specs.Places.{in_row}
 use Rattle.loop_shapes.specs.Search.{HasRoom, HasNoRoom}
 use Rattle.loop_shapes.proofs.Searches.{search_started, search_overfull, search_more, search_full, search_done, tried_room, tried_full}
 use Rattle.loop_shapes.proofs.search.search.Goals as goal
+use Rattle.loop_data.specs.Flows.{row_at, rows}
 
 read : (xs : List ℕ) (i x : ℕ) → i < length xs → x ≡ get_or xs i x → x ≡ get_or xs i 0
 read xs i x l e = e ∙ get_or_default xs i x 0 l
@@ -26,19 +25,19 @@ returns-then-not-branch-2-clause-places c =
     let found = c.loop-next.found.items in
     let more : c.loop-next.next < length found = omega (arith, c.loop-next.found.ok.0) in
     let at = read found c.loop-next.next c.index-at.result.now more c.index-at.ensures in
-    let full = tried_full found (in_row (rows c.args.before.now) c.index-at.result.now) c.add_row.new.found.items c.add_row.new.slots c.in_ok-add_row.field-0 c.if-not-branch-2.true c.in_ok-add_row.ensures in
-    search_full (rows c.args.before.now) c.args.header c.args.sources.now c.loop-next.next found c.loop-next.slots c.loop-next.invariant more c.add_row.new.found.items c.add_row.new.slots (subst (λ (q : ℕ). HasNoRoom found (in_row (rows c.args.before.now) q) c.add_row.new.found.items c.add_row.new.slots) at full)
+    let full = tried_full found (row_at (rows c.args.before.now) c.index-at.result.now) c.add_row.new.found.items c.add_row.new.slots c.in_ok-add_row.field-0 c.if-not-branch-2.true c.in_ok-add_row.ensures in
+    search_full (rows c.args.before.now) c.args.header c.args.sources.now c.loop-next.next found c.loop-next.slots c.loop-next.invariant more c.add_row.new.found.items c.add_row.new.slots (subst (λ (q : ℕ). HasNoRoom found (row_at (rows c.args.before.now) q) c.add_row.new.found.items c.add_row.new.slots) at full)
 
 pub returns-then-not-branch-2-clause-indexed : goal.returns-then-not-branch-2-clause-indexed
-returns-then-not-branch-2-clause-indexed c = (tried_full c.loop-next.found.items (in_row (rows c.args.before.now) c.index-at.result.now) c.add_row.new.found.items c.add_row.new.slots c.in_ok-add_row.field-0 c.if-not-branch-2.true c.in_ok-add_row.ensures).indexed
+returns-then-not-branch-2-clause-indexed c = (tried_full c.loop-next.found.items (row_at (rows c.args.before.now) c.index-at.result.now) c.add_row.new.found.items c.add_row.new.slots c.in_ok-add_row.field-0 c.if-not-branch-2.true c.in_ok-add_row.ensures).indexed
 
 pub loop-next-preserved : goal.loop-next-preserved
 loop-next-preserved c =
     let found = c.loop-next.found.items in
     let more : c.loop-next.next < length found = omega (arith, c.loop-next.found.ok.0) in
     let at = read found c.loop-next.next c.index-at.result.now more c.index-at.ensures in
-    let room = tried_room found (in_row (rows c.args.before.now) c.index-at.result.now) c.add_row.new.found.items c.add_row.new.slots c.in_ok-add_row.field-0 c.if-not-branch-2.false c.in_ok-add_row.ensures in
-    search_more (rows c.args.before.now) c.args.header c.args.sources.now c.loop-next.next found c.loop-next.slots c.loop-next.invariant more c.add_row.new.found.items c.add_row.new.slots (subst (λ (q : ℕ). HasRoom found (in_row (rows c.args.before.now) q) c.add_row.new.found.items c.add_row.new.slots) at room)
+    let room = tried_room found (row_at (rows c.args.before.now) c.index-at.result.now) c.add_row.new.found.items c.add_row.new.slots c.in_ok-add_row.field-0 c.if-not-branch-2.false c.in_ok-add_row.ensures in
+    search_more (rows c.args.before.now) c.args.header c.args.sources.now c.loop-next.next found c.loop-next.slots c.loop-next.invariant more c.add_row.new.found.items c.add_row.new.slots (subst (λ (q : ℕ). HasRoom found (row_at (rows c.args.before.now) q) c.add_row.new.found.items c.add_row.new.slots) at room)
 
 pub returns-clause-places : goal.returns-clause-places
 returns-clause-places c = search_done (rows c.args.before.now) c.args.header c.args.sources.now c.loop-next.next c.loop-next.found.items c.loop-next.slots c.loop-next.invariant (omega (arith, c.loop-next.found.ok.0))
