@@ -9,6 +9,7 @@ ghost use Rattle.loop_shapes.specs.Gains.{Gained, HasAll};
 
 use crate::closed::part;
 use crate::net::Net;
+use crate::place_set::PlaceSet;
 use std::alloc::{AllocError, Global};
 
 // The address at a place.
@@ -33,44 +34,39 @@ pub fn push_addresses(at: &[u64], places: &[usize], all: &mut Vec<u64>) -> Resul
 // Puts the addresses of the words that a closed edge makes a loop of to others.
 fn add_part(
     net: &Net,
-    slots: &mut [usize],
-    found: &mut Vec<usize>,
+    set: &mut PlaceSet,
     all: &mut Vec<u64>,
     header: usize,
     source: usize,
 ) -> Result<(), AllocError>
     requires net { IsNet net.now }
-    requires count { length slots.old ≡ count_of (graph_of net.now) }
     requires header { header < count_of (graph_of net.now) }
     requires source { source < count_of (graph_of net.now) }
     requires closed { IsClosed (graph_of net.now) (at (graph_of net.now) header) (at (graph_of net.now) source) }
     ensures { OnOk result (Gained (InPart (graph_of net.now) (at (graph_of net.now) header)
         (at (graph_of net.now) source)) all.old.items all.new.items) }
 {
-    if !part(net, slots, found, header, source)? {
+    if !part(net, set, header, source)? {
         return Ok(());
     }
-    push_addresses(net.at.as_slice(), found, all)
+    push_addresses(net.at.as_slice(), &set.found, all)
 }
 
 // The addresses of a loop's words, in any order.
 fn all_parts(
-    alloc: Global,
     net: &Net,
-    slots: &mut [usize],
-    found: &mut Vec<usize>,
+    set: &mut PlaceSet,
     header: usize,
     closed: &[usize],
 ) -> Result<Vec<u64>, AllocError>
     requires net { IsNet net.now }
-    requires count { length slots.old ≡ count_of (graph_of net.now) }
     requires header { header < count_of (graph_of net.now) }
     requires closed { IsRowOf (graph_of net.now) (IsClosed (graph_of net.now)) header closed.now }
     ensures { IfOk result (λ v. HasAll (IsPartOf (graph_of net.now) header closed.now) v.items) }
 {
-    let mut all = Vec::new(alloc);
+    let mut all = Vec::new(set.alloc);
     for source in closed {
-        add_part(net, slots, found, &mut all, header, *source)?;
+        add_part(net, set, &mut all, header, *source)?;
     }
     Ok(all)
 }
@@ -87,20 +83,17 @@ pub fn in_order(mut all: Vec<u64>) -> Vec<u64>
 /// The addresses of the words of the loop at a place, in order, from the places of the words from which
 /// closed edges lead to it; none where no loop stands there.
 pub fn body_of(
-    alloc: Global,
     net: &Net,
-    slots: &mut [usize],
-    found: &mut Vec<usize>,
+    set: &mut PlaceSet,
     header: usize,
     closed: &[usize],
 ) -> Result<Vec<u64>, AllocError>
     requires net { IsNet net.now }
-    requires count { length slots.old ≡ count_of (graph_of net.now) }
     requires header { header < count_of (graph_of net.now) }
     requires closed { IsRowOf (graph_of net.now) (IsClosed (graph_of net.now)) header closed.now }
     ensures { IfOk result (λ v. IsListOf (InBody (graph_of net.now) (at (graph_of net.now) header)) v.items) }
 {
-    Ok(in_order(all_parts(alloc, net, slots, found, header, closed)?))
+    Ok(in_order(all_parts(net, set, header, closed)?))
 }
 
 /// The addresses at some places, in order.

@@ -89,15 +89,13 @@ fn take_out_all(body: &LoopBody, gone: &mut PlaceSet, places: &[usize]) -> Resul
 /// Whether a loop has no cycle but through back edges. Words from which no other edge leads on are taken
 /// out, then those that lead to them, and so on; words of a cycle are left.
 pub fn is_acyclic(body: &LoopBody, gone: &mut PlaceSet) -> Result<bool, AllocError>
-    requires body { IsLoopBody body.now }
-    requires gone { IsPlaceSet (count_of (body_graph body.now)) gone.old }
-    ensures acyclic { IfOk result (λ b. IsTrue b ↔ IsAcyclic (body_graph body.now) (header_of body.now)) }
-    ensures gone { OnOk result (IsPlaceSet (count_of (body_graph body.now)) gone.new) }
+    requires { IsLoopBody body.now }
+    ensures { IfOk result (λ b. IsTrue b ↔ IsAcyclic (body_graph body.now) (header_of body.now)) }
 {
     if body.acyclic {
         return Ok(true);
     }
-    gone.clear();
+    gone.clear(body.slots.len())?;
     take_out_all(body, gone, body.places)?;
     let mut next = 0;
     while next < gone.found.len() {
@@ -105,7 +103,11 @@ pub fn is_acyclic(body: &LoopBody, gone: &mut PlaceSet) -> Result<bool, AllocErr
             return Ok(true);
         }
         let at = gone.found[next];
-        take_out_all(body, gone, flow::row(body.program.net.before.as_slice(), at))?;
+        take_out_all(
+            body,
+            gone,
+            flow::row(body.program.net.before.as_slice(), at),
+        )?;
         next += 1;
     }
     Ok(gone.found.len() == body.places.len())

@@ -11,6 +11,7 @@ ghost use Rattle.loop_shapes.specs.Program.{IsProgram, program_graph};
 use crate::marks::{Marks, least_flagged};
 use crate::net::{Net, address_of};
 use crate::outer::{is_outer, is_under};
+use crate::place_set::PlaceSet;
 use crate::program::{Program, find_body};
 use loop_data::Verdict;
 use std::alloc::{AllocError, Global};
@@ -83,24 +84,22 @@ pub fn is_clean(program: &Program, marks: &Marks, place: usize) -> bool
 fn is_clean_outer(
     program: &Program,
     marks: &Marks,
-    slots: &mut [usize],
-    found: &mut Vec<usize>,
+    set: &mut PlaceSet,
     place: usize,
 ) -> Result<bool, AllocError>
     requires program { IsProgram program.now }
     requires marks { AreWordMarks (program_graph program.now) marks.now }
-    requires count { length slots.old ≡ count_of (program_graph program.now) }
     requires within { place < count_of (program_graph program.now) }
     ensures { IfOk result (λ b. IsTrue b → IsClean (program_graph program.now) (at (program_graph program.now) place)) }
 {
     if !is_outer(program, place) {
         return Ok(false);
     }
-    if !find_body(program, slots, found, place)? {
+    if !find_body(program, set, place)? {
         return Ok(false);
     }
     let header = address_of(&program.net, place);
-    match early_verdict(&program.net, marks, found, header, false) {
+    match early_verdict(&program.net, marks, &set.found, header, false) {
         Some(_) => Ok(false),
         None => Ok(true),
     }
@@ -108,38 +107,32 @@ fn is_clean_outer(
 
 /// At which outermost loops neither words nor inner loops decide a verdict.
 pub fn clean_flags(
-    alloc: Global,
     program: &Program,
     marks: &Marks,
-    slots: &mut [usize],
-    found: &mut Vec<usize>,
+    set: &mut PlaceSet,
 ) -> Result<Vec<bool>, AllocError>
     requires program { IsProgram program.now }
     requires marks { AreWordMarks (program_graph program.now) marks.now }
-    requires count { length slots.old ≡ count_of (program_graph program.now) }
     ensures { IfOk result (λ v. AreKnown (program_graph program.now) (IsClean (program_graph program.now)) v.items) }
 {
-    let mut all = Vec::new(alloc);
+    let mut all = Vec::new(set.alloc);
     for place in 0..program.net.at.len() {
-        all.push(is_clean_outer(program, marks, slots, found, place)?)?;
+        all.push(is_clean_outer(program, marks, set, place)?)?;
     }
     Ok(all)
 }
 
 /// The marks with the outermost loops at which neither words nor inner loops decide a verdict.
 pub fn with_clean(
-    alloc: Global,
     program: &Program,
     mut marks: Marks,
-    slots: &mut [usize],
-    found: &mut Vec<usize>,
+    set: &mut PlaceSet,
 ) -> Result<Marks, AllocError>
     requires program { IsProgram program.now }
     requires marks { AreWordMarks (program_graph program.now) marks }
-    requires count { length slots.old ≡ count_of (program_graph program.now) }
     ensures { IfOk result (AreWordMarks (program_graph program.now)) }
 {
-    let clean = clean_flags(alloc, program, &marks, slots, found)?;
+    let clean = clean_flags(program, &marks, set)?;
     marks.clean = clean;
     Ok(marks)
 }

@@ -13,6 +13,7 @@ use crate::body::{in_order, push_addresses};
 use crate::closed::part;
 use crate::edges::edges;
 use crate::net::{Net, find};
+use crate::place_set::PlaceSet;
 use crate::reach::reached_within;
 use crate::sets::minus;
 use loop_data::Verdict;
@@ -76,15 +77,12 @@ fn first_start(net: &Net, xs: &[u64]) -> Option<u64>
 
 /// The addresses of the words that an edge closes into a loop, in order, where they are at most 256.
 pub fn part_list(
-    alloc: Global,
     net: &Net,
-    slots: &mut [usize],
-    found: &mut Vec<usize>,
+    set: &mut PlaceSet,
     header: usize,
     source: usize,
 ) -> Result<Option<Vec<u64>>, AllocError>
     requires net { IsNet net.now }
-    requires count { length slots.old ≡ count_of (graph_of net.now) }
     requires header { header < count_of (graph_of net.now) }
     requires source { source < count_of (graph_of net.now) }
     ensures { IfOk result (λ o. MatchOption o
@@ -92,11 +90,11 @@ pub fn part_list(
         (λ v. IsListOf (InPart (graph_of net.now) (at (graph_of net.now) header)
         (at (graph_of net.now) source)) v.items)) }
 {
-    if !part(net, slots, found, header, source)? {
+    if !part(net, set, header, source)? {
         return Ok(None);
     }
-    let mut all = Vec::new(alloc);
-    push_addresses(net.at.as_slice(), found, &mut all)?;
+    let mut all = Vec::new(set.alloc);
+    push_addresses(net.at.as_slice(), &set.found, &mut all)?;
     Ok(Some(in_order(all)))
 }
 

@@ -128,25 +128,17 @@ pub fn is_passed(
     exit: usize,
 ) -> Result<bool, AllocError>
     requires body { IsLoopBody body.now }
-    requires others { IsPlaceSet (count_of (body_graph body.now)) others.old }
     requires back { back < count_of (body_graph body.now) }
     requires closed { IsClosed (body_graph body.now) (header_of body.now) (at (body_graph body.now) back) }
     requires among { Contains body.now.places.now exit }
-    ensures passed { IfOk result (λ b. IsTrue b
+    ensures { IfOk result (λ b. IsTrue b
         ↔ (¬ ReachesPast (body_graph body.now) (at (body_graph body.now) exit) (header_of body.now)
         (at (body_graph body.now) back))) }
-    ensures others { OnOk result (IsPlaceSet (count_of (body_graph body.now)) others.new) }
 {
     if exit == body.header {
         return Ok(true);
     }
-    if !part(
-        &body.program.net,
-        &mut others.slots,
-        &mut others.found,
-        exit,
-        back,
-    )? {
+    if !part(&body.program.net, others, exit, back)? {
         return Ok(false);
     }
     Ok(!others.has(body.header))

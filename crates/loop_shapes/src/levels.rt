@@ -3,7 +3,6 @@ ghost use Rattle.std.specs.List.{Contains};
 ghost use Rattle.loop_data.specs.Bodies.{IsHeader, InBody};
 ghost use Rattle.loop_data.specs.Loops.{IsLevel, AreLevels, IsSoundNest, IsLoop};
 ghost use Rattle.loop_shapes.specs.Marks.{AreWordMarks};
-ghost use Rattle.loop_shapes.specs.PlaceSet.{IsPlaceSet};
 ghost use Rattle.loop_shapes.specs.Places.{at, count_of};
 ghost use Rattle.loop_shapes.specs.Program.{IsProgram, program_graph};
 ghost use Rattle.loop_data.specs.Sets.{IsListOf};
@@ -23,35 +22,30 @@ use std::alloc::{AllocError, Global};
 
 // A loop of a nest.
 fn level(
-    alloc: Global,
     program: &Program,
-    slots: &mut [usize],
-    found: &mut Vec<usize>,
+    set: &mut PlaceSet,
     others: &mut PlaceSet,
     nest: &[u64],
     x: u64,
 ) -> Result<Level, AllocError>
     requires program { IsProgram program.now }
-    requires count { length slots.old ≡ count_of (program_graph program.now) }
-    requires others { IsPlaceSet (count_of (program_graph program.now)) others.old }
     requires nest { IsSoundNest (program_graph program.now) nest.now }
     requires among { Contains nest.now x }
     ensures header { IfOk result (λ l. l.header ≡ x) }
     ensures level { IfOk result (λ l. (h : ℕ) → IsListOf (InNest (program_graph program.now) h) nest.now
         → IsLevel (program_graph program.now) h l) }
-    ensures others { OnOk result (IsPlaceSet (count_of (program_graph program.now)) others.new) }
 {
     let Some(place) = find(&program.net, x) else {
         unreachable!()
     };
-    if !find_body(program, slots, found, place)? {
+    if !find_body(program, set, place)? {
         unreachable!()
     }
-    let Some(shape) = own_shape_at(program, slots, found, others, false, place)? else {
+    let Some(shape) = own_shape_at(program, set, others, false, place)? else {
         unreachable!()
     };
-    let body = addresses_at(alloc, &program.net, found)?;
-    let round = round_of(alloc, program, slots, found, nest, x)?;
+    let body = addresses_at(set.alloc, &program.net, &set.found)?;
+    let round = round_of(program, set, nest, x)?;
     let depth = round.len() as u32;
     Ok(Level {
         header: x,
@@ -64,28 +58,23 @@ fn level(
 
 // The loops of a nest, that of the root first.
 fn levels_of(
-    alloc: Global,
     program: &Program,
-    slots: &mut [usize],
-    found: &mut Vec<usize>,
+    set: &mut PlaceSet,
     others: &mut PlaceSet,
     nest: &[u64],
     header: u64,
 ) -> Result<Vec<Level>, AllocError>
     requires program { IsProgram program.now }
-    requires count { length slots.old ≡ count_of (program_graph program.now) }
-    requires others { IsPlaceSet (count_of (program_graph program.now)) others.old }
     requires nest { IsSoundNest (program_graph program.now) nest.now }
     requires is { IsListOf (InNest (program_graph program.now) header) nest.now }
     requires among { Contains nest.now header }
-    ensures levels { IfOk result (λ v. AreLevels (program_graph program.now) header v.items) }
-    ensures others { OnOk result (IsPlaceSet (count_of (program_graph program.now)) others.new) }
+    ensures { IfOk result (λ v. AreLevels (program_graph program.now) header v.items) }
 {
-    let inner = minus(alloc, nest, &[header])?;
-    let mut all = Vec::new(alloc);
-    all.push(level(alloc, program, slots, found, others, nest, header)?)?;
+    let inner = minus(set.alloc, nest, &[header])?;
+    let mut all = Vec::new(set.alloc);
+    all.push(level(program, set, others, nest, header)?)?;
     for x in inner.as_slice() {
-        all.push(level(alloc, program, slots, found, others, nest, *x)?)?;
+        all.push(level(program, set, others, nest, *x)?)?;
     }
     Ok(all)
 }
@@ -105,48 +94,35 @@ pub fn judged(alloc: Global, header: u64, verdict: Verdict) -> LoopShape
 
 /// The loop at the word at a place.
 pub fn loop_at(
-    alloc: Global,
     program: &Program,
     marks: &Marks,
-    slots: &mut [usize],
-    found: &mut Vec<usize>,
+    set: &mut PlaceSet,
     others: &mut PlaceSet,
     place: usize,
 ) -> Result<LoopShape, AllocError>
     requires program { IsProgram program.now }
-    requires count { length slots.old ≡ count_of (program_graph program.now) }
-    requires others { IsPlaceSet (count_of (program_graph program.now)) others.old }
     requires marks { AreWordMarks (program_graph program.now) marks.now }
     requires within { place < count_of (program_graph program.now) }
     requires header { IsHeader (program_graph program.now) (at (program_graph program.now) place) }
     ensures header { IfOk result (λ s. s.header ≡ at (program_graph program.now) place) }
     ensures is { IfOk result (IsLoop (program_graph program.now)) }
-    ensures others { OnOk result (IsPlaceSet (count_of (program_graph program.now)) others.new) }
 {
     let header = address_of(&program.net, place);
-    if !find_body(program, slots, found, place)? {
-        return Ok(judged(alloc, header, Verdict::Limit { at: header }));
+    if !find_body(program, set, place)? {
+        return Ok(judged(set.alloc, header, Verdict::Limit { at: header }));
     }
     let clean = is_clean(program, marks, place);
-    if let Some(verdict) = early_verdict(&program.net, marks, found, header, clean) {
-        return Ok(judged(alloc, header, verdict));
+    if let Some(verdict) = early_verdict(&program.net, marks, &set.found, header, clean) {
+        return Ok(judged(set.alloc, header, verdict));
     }
-    let Some(headers) = headers_of(alloc, program, slots, found)? else {
-        return Ok(judged(alloc, header, Verdict::Limit { at: header }));
+    let Some(headers) = headers_of(set.alloc, program, &set.slots, &set.found)? else {
+        return Ok(judged(set.alloc, header, Verdict::Limit { at: header }));
     };
     let nest = in_order(headers);
-    if !is_small_nest(alloc, program, slots, found, nest.as_slice())? {
-        return Ok(judged(alloc, header, Verdict::Limit { at: header }));
+    if !is_small_nest(program, set, nest.as_slice())? {
+        return Ok(judged(set.alloc, header, Verdict::Limit { at: header }));
     }
-    let levels = levels_of(
-        alloc,
-        program,
-        slots,
-        found,
-        others,
-        nest.as_slice(),
-        header,
-    )?;
+    let levels = levels_of(program, set, others, nest.as_slice(), header)?;
     Ok(LoopShape {
         header,
         levels: Levels::new(levels),

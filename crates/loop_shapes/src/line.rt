@@ -10,25 +10,24 @@ ghost use Rattle.loop_data.specs.Sets.{IsLeast};
 use crate::closed::part;
 use crate::entry::{entry_of, part_list};
 use crate::net::{Net, address_of};
+use crate::place_set::PlaceSet;
 use loop_data::Verdict;
 use std::alloc::{AllocError, Global};
 
 // Whether the words of one of these edges pass the limit.
 fn has_large(
     net: &Net,
-    slots: &mut [usize],
-    found: &mut Vec<usize>,
+    set: &mut PlaceSet,
     header: usize,
     row: &[usize],
 ) -> Result<bool, AllocError>
     requires net { IsNet net.now }
-    requires count { length slots.old ≡ count_of (graph_of net.now) }
     requires header { header < count_of (graph_of net.now) }
     requires row { (i : ℕ) → Contains row.now i → i < count_of (graph_of net.now) }
     ensures { IfOk result (λ b. HasLarge b (graph_of net.now) header row.now) }
 {
     for source in row {
-        if !part(net, slots, found, header, *source)? {
+        if !part(net, set, header, *source)? {
             return Ok(true);
         }
     }
@@ -58,15 +57,12 @@ fn least_place(row: &[usize]) -> Option<usize>
 
 /// The line of the listed edges to a word, from the places of their sources.
 pub fn line_of(
-    alloc: Global,
     net: &Net,
-    slots: &mut [usize],
-    found: &mut Vec<usize>,
+    set: &mut PlaceSet,
     header: usize,
     row: &[usize],
 ) -> Result<Option<Verdict>, AllocError>
     requires net { IsNet net.now }
-    requires count { length slots.old ≡ count_of (graph_of net.now) }
     requires header { header < count_of (graph_of net.now) }
     requires row { IsRowOf (graph_of net.now) (IsListed (graph_of net.now)) header row.now }
     ensures { IfOk result (λ o. MatchOption o ((u : ℕ) → ¬ IsListed (graph_of net.now) (at (graph_of net.now) header) u)
@@ -76,12 +72,12 @@ pub fn line_of(
         return Ok(None);
     };
     let at = address_of(net, header);
-    if has_large(net, slots, found, header, row)? {
+    if has_large(net, set, header, row)? {
         return Ok(Some(Verdict::Limit { at }));
     }
-    let Some(words) = part_list(alloc, net, slots, found, header, source)? else {
+    let Some(words) = part_list(net, set, header, source)? else {
         unreachable!()
     };
     let from = address_of(net, source);
-    Ok(Some(entry_of(alloc, net, words.as_slice(), at, from)?))
+    Ok(Some(entry_of(set.alloc, net, words.as_slice(), at, from)?))
 }

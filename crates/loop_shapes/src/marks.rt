@@ -15,6 +15,7 @@ ghost use Rattle.loop_data.specs.Flows.{IsSet};
 use crate::kind::{Kind, has_kind};
 use crate::net::{Net, address_of};
 use crate::outer::{is_outer, is_under};
+use crate::place_set::PlaceSet;
 use crate::program::{Program, find_body, is_header_at};
 use loop_data::flow::unset_flags;
 use std::alloc::{AllocError, Global};
@@ -82,13 +83,11 @@ fn has_unshaped(program: &Program, shaped: &[bool], found: &[usize]) -> bool
 fn is_unsound(
     program: &Program,
     shaped: &[bool],
-    slots: &mut [usize],
-    found: &mut Vec<usize>,
+    set: &mut PlaceSet,
     place: usize,
 ) -> Result<bool, AllocError>
     requires program { IsProgram program.now }
     requires flags { AreFlags (program_graph program.now) (IsShaped (program_graph program.now)) shaped.now }
-    requires count { length slots.old ≡ count_of (program_graph program.now) }
     requires within { place < count_of (program_graph program.now) }
     ensures { IfOk result (λ b. IsTrue b
         ↔ IsUnsound (program_graph program.now) (at (program_graph program.now) place)) }
@@ -99,23 +98,21 @@ fn is_unsound(
     if !shaped[place] {
         return Ok(true);
     }
-    if !find_body(program, slots, found, place)? {
+    if !find_body(program, set, place)? {
         return Ok(true);
     }
-    Ok(has_unshaped(program, shaped, found))
+    Ok(has_unshaped(program, shaped, &set.found))
 }
 
 // Whether an outermost loop stands at a place that has the shape.
 fn is_sound_outer(
     program: &Program,
     shaped: &[bool],
-    slots: &mut [usize],
-    found: &mut Vec<usize>,
+    set: &mut PlaceSet,
     place: usize,
 ) -> Result<bool, AllocError>
     requires program { IsProgram program.now }
     requires flags { AreFlags (program_graph program.now) (IsShaped (program_graph program.now)) shaped.now }
-    requires count { length slots.old ≡ count_of (program_graph program.now) }
     requires within { place < count_of (program_graph program.now) }
     ensures { IfOk result (λ b. IsTrue b
         → ¬ IsUnsound (program_graph program.now) (at (program_graph program.now) place)) }
@@ -123,7 +120,7 @@ fn is_sound_outer(
     if !is_outer(program, place) {
         return Ok(false);
     }
-    if is_unsound(program, shaped, slots, found, place)? {
+    if is_unsound(program, shaped, set, place)? {
         return Ok(false);
     }
     Ok(true)
@@ -131,20 +128,17 @@ fn is_sound_outer(
 
 // At which words outermost loops stand that have the shape.
 fn sound_flags(
-    alloc: Global,
     program: &Program,
     shaped: &[bool],
-    slots: &mut [usize],
-    found: &mut Vec<usize>,
+    set: &mut PlaceSet,
 ) -> Result<Vec<bool>, AllocError>
     requires program { IsProgram program.now }
     requires flags { AreFlags (program_graph program.now) (IsShaped (program_graph program.now)) shaped.now }
-    requires count { length slots.old ≡ count_of (program_graph program.now) }
     ensures { IfOk result (λ v. AreKnown (program_graph program.now) (IsSound (program_graph program.now)) v.items) }
 {
-    let mut all = Vec::new(alloc);
+    let mut all = Vec::new(set.alloc);
     for place in 0..program.net.at.len() {
-        all.push(is_sound_outer(program, shaped, slots, found, place)?)?;
+        all.push(is_sound_outer(program, shaped, set, place)?)?;
     }
     Ok(all)
 }
@@ -155,14 +149,12 @@ fn is_unsound_in(
     program: &Program,
     shaped: &[bool],
     sound: &[bool],
-    slots: &mut [usize],
-    found: &mut Vec<usize>,
+    set: &mut PlaceSet,
     place: usize,
 ) -> Result<bool, AllocError>
     requires program { IsProgram program.now }
     requires flags { AreFlags (program_graph program.now) (IsShaped (program_graph program.now)) shaped.now }
     requires sound { AreKnown (program_graph program.now) (IsSound (program_graph program.now)) sound.now }
-    requires count { length slots.old ≡ count_of (program_graph program.now) }
     requires within { place < count_of (program_graph program.now) }
     ensures { IfOk result (λ b. IsTrue b
         ↔ IsUnsound (program_graph program.now) (at (program_graph program.now) place)) }
@@ -170,52 +162,42 @@ fn is_unsound_in(
     if is_under(program, sound, place) {
         return Ok(false);
     }
-    is_unsound(program, shaped, slots, found, place)
+    is_unsound(program, shaped, set, place)
 }
 
 // At which words loops stand that have not the shape.
 fn unsound_flags(
-    alloc: Global,
     program: &Program,
     shaped: &[bool],
-    slots: &mut [usize],
-    found: &mut Vec<usize>,
+    set: &mut PlaceSet,
 ) -> Result<Vec<bool>, AllocError>
     requires program { IsProgram program.now }
     requires flags { AreFlags (program_graph program.now) (IsShaped (program_graph program.now)) shaped.now }
-    requires count { length slots.old ≡ count_of (program_graph program.now) }
     ensures { IfOk result (λ v. AreFlags (program_graph program.now) (IsUnsound (program_graph program.now)) v.items) }
 {
-    let sound = sound_flags(alloc, program, shaped, slots, found)?;
-    let mut all = Vec::new(alloc);
+    let sound = sound_flags(program, shaped, set)?;
+    let mut all = Vec::new(set.alloc);
     for place in 0..program.net.at.len() {
-        all.push(is_unsound_in(program, shaped, sound.as_slice(), slots, found, place)?)?;
+        all.push(is_unsound_in(program, shaped, sound.as_slice(), set, place)?)?;
     }
     Ok(all)
 }
 
 /// What is known of each word, from the loops that have the shape, whatever their inner loops have; it is
 /// not known yet which loops are clean.
-pub fn marks_of(
-    alloc: Global,
-    program: &Program,
-    shaped: &[bool],
-    slots: &mut [usize],
-    found: &mut Vec<usize>,
-) -> Result<Marks, AllocError>
+pub fn marks_of(program: &Program, shaped: &[bool], set: &mut PlaceSet) -> Result<Marks, AllocError>
     requires program { IsProgram program.now }
     requires flags { AreFlags (program_graph program.now) (IsShaped (program_graph program.now)) shaped.now }
-    requires count { length slots.old ≡ count_of (program_graph program.now) }
     ensures { IfOk result (AreWordMarks (program_graph program.now)) }
 {
     let net = &program.net;
     Ok(Marks {
-        calls: kind_flags(alloc, net, Kind::Calls)?,
-        asks: kind_flags(alloc, net, Kind::Asks)?,
-        jumps: kind_flags(alloc, net, Kind::JumpsAnywhere)?,
-        nothing: kind_flags(alloc, net, Kind::IsNothing)?,
-        unsound: unsound_flags(alloc, program, shaped, slots, found)?,
-        clean: unset_flags(alloc, net.at.len())?,
+        calls: kind_flags(set.alloc, net, Kind::Calls)?,
+        asks: kind_flags(set.alloc, net, Kind::Asks)?,
+        jumps: kind_flags(set.alloc, net, Kind::JumpsAnywhere)?,
+        nothing: kind_flags(set.alloc, net, Kind::IsNothing)?,
+        unsound: unsound_flags(program, shaped, set)?,
+        clean: unset_flags(set.alloc, net.at.len())?,
     })
 }
 

@@ -6,7 +6,6 @@ ghost use Rattle.loop_shapes.specs.Gains.{Gained, HasAll};
 ghost use Rattle.loop_shapes.specs.Net.{AreAt};
 ghost use Rattle.loop_shapes.specs.Nested.{HasTriedHeader};
 ghost use Rattle.loop_shapes.specs.Outer.{AreKnown, IsAcyclic};
-ghost use Rattle.loop_shapes.specs.PlaceSet.{IsPlaceSet};
 ghost use Rattle.loop_shapes.specs.Places.{AreFlags, at, count_of};
 ghost use Rattle.loop_shapes.specs.Program.{IsProgram, program_graph};
 ghost use Rattle.loop_shapes.specs.Search.{IsIndexed};
@@ -21,50 +20,47 @@ use crate::program::{Program, body_at, find_body, is_among, is_header_at};
 use crate::shape::{is_acyclic_at, own_shape_at};
 use std::alloc::{AllocError, Global};
 
+// The number of loops that a nest may have.
+const LOOPS: usize = 4;
+
+// The number of loops of a nest that may lie round one of them.
+const ROUND: usize = 2;
+
 // Whether an outermost loop stands at a place that has no cycle but through back edges.
 fn is_acyclic_outer(
     program: &Program,
-    slots: &mut [usize],
-    found: &mut Vec<usize>,
+    set: &mut PlaceSet,
     others: &mut PlaceSet,
     place: usize,
 ) -> Result<bool, AllocError>
     requires program { IsProgram program.now }
-    requires count { length slots.old ≡ count_of (program_graph program.now) }
-    requires others { IsPlaceSet (count_of (program_graph program.now)) others.old }
     requires within { place < count_of (program_graph program.now) }
-    ensures acyclic { IfOk result (λ b. IsTrue b
+    ensures { IfOk result (λ b. IsTrue b
         → IsAcyclic (program_graph program.now) (at (program_graph program.now) place)) }
-    ensures others { OnOk result (IsPlaceSet (count_of (program_graph program.now)) others.new) }
 {
     if !is_outer(program, place) {
         return Ok(false);
     }
-    if !find_body(program, slots, found, place)? {
+    if !find_body(program, set, place)? {
         return Ok(false);
     }
-    let acyclic = is_acyclic_at(program, slots, found, others, place)?;
+    let acyclic = is_acyclic_at(program, set, others, place)?;
     Ok(acyclic)
 }
 
 // At which words outermost loops stand that have no cycle but through back edges.
 fn acyclic_flags(
-    alloc: Global,
     program: &Program,
-    slots: &mut [usize],
-    found: &mut Vec<usize>,
+    set: &mut PlaceSet,
     others: &mut PlaceSet,
 ) -> Result<Vec<bool>, AllocError>
     requires program { IsProgram program.now }
-    requires count { length slots.old ≡ count_of (program_graph program.now) }
-    requires others { IsPlaceSet (count_of (program_graph program.now)) others.old }
-    ensures flags { IfOk result (λ v. AreKnown (program_graph program.now) (IsAcyclic
+    ensures { IfOk result (λ v. AreKnown (program_graph program.now) (IsAcyclic
         (program_graph program.now)) v.items) }
-    ensures others { OnOk result (IsPlaceSet (count_of (program_graph program.now)) others.new) }
 {
-    let mut all = Vec::new(alloc);
+    let mut all = Vec::new(set.alloc);
     for place in 0..program.net.at.len() {
-        all.push(is_acyclic_outer(program, slots, found, others, place)?)?;
+        all.push(is_acyclic_outer(program, set, others, place)?)?;
     }
     Ok(all)
 }
@@ -72,29 +68,25 @@ fn acyclic_flags(
 // Whether the loop at a place has the shape, whatever its inner loops have.
 fn is_shaped(
     program: &Program,
-    slots: &mut [usize],
-    found: &mut Vec<usize>,
+    set: &mut PlaceSet,
     others: &mut PlaceSet,
     acyclic: &[bool],
     place: usize,
 ) -> Result<bool, AllocError>
     requires program { IsProgram program.now }
-    requires count { length slots.old ≡ count_of (program_graph program.now) }
-    requires others { IsPlaceSet (count_of (program_graph program.now)) others.old }
     requires acyclic { AreKnown (program_graph program.now) (IsAcyclic (program_graph program.now)) acyclic.now }
     requires within { place < count_of (program_graph program.now) }
-    ensures shaped { IfOk result (λ b. IsTrue b
+    ensures { IfOk result (λ b. IsTrue b
         ↔ IsShaped (program_graph program.now) (at (program_graph program.now) place)) }
-    ensures others { OnOk result (IsPlaceSet (count_of (program_graph program.now)) others.new) }
 {
     if !is_header_at(program, place) {
         return Ok(false);
     }
-    if !find_body(program, slots, found, place)? {
+    if !find_body(program, set, place)? {
         return Ok(false);
     }
     let known = is_under(program, acyclic, place);
-    match own_shape_at(program, slots, found, others, known, place)? {
+    match own_shape_at(program, set, others, known, place)? {
         Some(_) => Ok(true),
         None => Ok(false),
     }
@@ -102,23 +94,18 @@ fn is_shaped(
 
 /// At which words loops stand that have the shape, whatever their inner loops have.
 pub fn shape_flags(
-    alloc: Global,
     program: &Program,
-    slots: &mut [usize],
-    found: &mut Vec<usize>,
+    set: &mut PlaceSet,
     others: &mut PlaceSet,
 ) -> Result<Vec<bool>, AllocError>
     requires program { IsProgram program.now }
-    requires count { length slots.old ≡ count_of (program_graph program.now) }
-    requires others { IsPlaceSet (count_of (program_graph program.now)) others.old }
-    ensures flags { IfOk result (λ v. AreFlags (program_graph program.now)
+    ensures { IfOk result (λ v. AreFlags (program_graph program.now)
         (IsShaped (program_graph program.now)) v.items) }
-    ensures others { OnOk result (IsPlaceSet (count_of (program_graph program.now)) others.new) }
 {
-    let acyclic = acyclic_flags(alloc, program, slots, found, others)?;
-    let mut all = Vec::new(alloc);
+    let acyclic = acyclic_flags(program, set, others)?;
+    let mut all = Vec::new(set.alloc);
     for place in 0..program.net.at.len() {
-        all.push(is_shaped(program, slots, found, others, acyclic.as_slice(), place)?)?;
+        all.push(is_shaped(program, set, others, acyclic.as_slice(), place)?)?;
     }
     Ok(all)
 }
@@ -154,7 +141,7 @@ pub fn headers_of(
 {
     let mut all = Vec::new(alloc);
     for place in found {
-        if all.len() > 4 {
+        if all.len() > LOOPS {
             return Ok(None);
         }
         add_header(program, *place, &mut all)?;
@@ -164,23 +151,20 @@ pub fn headers_of(
 
 // Puts a loop to others, where it lies round another.
 fn add_round(
-    alloc: Global,
     program: &Program,
-    slots: &mut [usize],
-    found: &mut Vec<usize>,
+    set: &mut PlaceSet,
     x: u64,
     round: u64,
     all: &mut Vec<u64>,
 ) -> Result<(), AllocError>
     requires program { IsProgram program.now }
-    requires count { length slots.old ≡ count_of (program_graph program.now) }
     ensures { OnOk result (Gained (λ z. (z ≡ round)
         × ((round ≢ x) × InBody (program_graph program.now) round x)) all.old.items all.new.items) }
 {
     if round == x {
         return Ok(());
     }
-    let body = body_at(alloc, program, slots, found, round)?;
+    let body = body_at(program, set, round)?;
     if !is_among(body.as_slice(), x) {
         return Ok(());
     }
@@ -190,43 +174,37 @@ fn add_round(
 
 /// The loops of a nest that lie round one of them, in order.
 pub fn round_of(
-    alloc: Global,
     program: &Program,
-    slots: &mut [usize],
-    found: &mut Vec<usize>,
+    set: &mut PlaceSet,
     nest: &[u64],
     x: u64,
 ) -> Result<Vec<u64>, AllocError>
     requires program { IsProgram program.now }
-    requires count { length slots.old ≡ count_of (program_graph program.now) }
     ensures { IfOk result (λ v. (h : ℕ) → IsListOf (InNest (program_graph program.now) h) nest.now
         → IsListOf (IsRound (program_graph program.now) h x) v.items) }
 {
-    let mut all = Vec::new(alloc);
+    let mut all = Vec::new(set.alloc);
     for round in nest {
-        add_round(alloc, program, slots, found, x, *round, &mut all)?;
+        add_round(program, set, x, *round, &mut all)?;
     }
     Ok(in_order(all))
 }
 
 /// Whether a nest is within the limits.
 pub fn is_small_nest(
-    alloc: Global,
     program: &Program,
-    slots: &mut [usize],
-    found: &mut Vec<usize>,
+    set: &mut PlaceSet,
     nest: &[u64],
 ) -> Result<bool, AllocError>
     requires program { IsProgram program.now }
-    requires count { length slots.old ≡ count_of (program_graph program.now) }
     ensures { IfOk result (λ b. (h : ℕ) → IsListOf (InNest (program_graph program.now) h) nest.now
         → IsTrue b ↔ IsSmallNest (program_graph program.now) h) }
 {
-    if nest.len() > 4 {
+    if nest.len() > LOOPS {
         return Ok(false);
     }
     for x in nest {
-        if round_of(alloc, program, slots, found, nest, *x)?.len() > 2 {
+        if round_of(program, set, nest, *x)?.len() > ROUND {
             return Ok(false);
         }
     }

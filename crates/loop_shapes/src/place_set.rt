@@ -1,13 +1,17 @@
-ghost use Rattle.std.specs.Prelude.{◌≡◌, ◌↔◌, ◌<◌, ◌++◌, ◌∷◌, [], IfOk, OnOk, IsTrue, length};
+ghost use Rattle.std.specs.Prelude.{◌≡◌, ◌↔◌, ◌<◌, ◌++◌, ◌∷◌, [], ℕ, IfOk, OnOk, IsTrue, length};
 ghost use Rattle.std.specs.List.{Contains};
+ghost use Rattle.loop_data.specs.Flows.{AreRowsWithin, rows};
 ghost use Rattle.loop_shapes.specs.PlaceSet.{IsPlaceSet};
+ghost use Rattle.loop_shapes.specs.Search.{HasSearched};
 
-use crate::search::{is_found, push_new};
+use crate::search::{is_found, push_new, search};
 use std::alloc::{AllocError, Global};
 
-/// A set of places that is emptied at once, whatever its slots hold.
+/// A sparse set of places: it is emptied at once, whatever its slots hold.
 #[derive(Drop)]
 pub struct PlaceSet {
+    /// The memory for the set, and for what is made from it.
+    pub alloc: Global,
     /// The places of the set, each once.
     pub found: Vec<usize>,
     /// For each place of the set where it stands among those found.
@@ -15,13 +19,13 @@ pub struct PlaceSet {
 }
 
 impl PlaceSet {
-    /// A set without places, for places below `count`.
-    pub fn new(alloc: Global, count: usize) -> Result<PlaceSet, AllocError>
-        ensures { IfOk result (IsPlaceSet count) }
-    {
-        let slots = vec![in alloc; 0; count]?;
-        let found = Vec::new(alloc);
-        Ok(PlaceSet { found, slots })
+    /// A set without places and without slots, which are made at the first use.
+    pub fn new(alloc: Global) -> PlaceSet {
+        PlaceSet {
+            alloc,
+            found: Vec::new(alloc),
+            slots: Vec::new(alloc),
+        }
     }
 
     /// Whether a place is in the set.
@@ -44,12 +48,42 @@ impl PlaceSet {
         push_new(&mut self.found, &mut self.slots, place)
     }
 
-    /// Takes all places out.
-    pub fn clear(&mut self)
-        requires set { IsPlaceSet (length self.old.slots.items) self.old }
-        ensures items { self.new.found.items ≡ [] }
-        ensures set { IsPlaceSet (length self.old.slots.items) self.new }
+    // Makes slots for places below `count`, where there are not as many.
+    fn fit(&mut self, count: usize) -> Result<(), AllocError>
+        ensures { OnOk result (length self.new.slots.items ≡ count) }
     {
+        if self.slots.len() != count {
+            self.slots = vec![in self.alloc; 0; count]?;
+        }
+        Ok(())
+    }
+
+    /// Takes all places out, for places below `count`.
+    pub fn clear(&mut self, count: usize) -> Result<(), AllocError>
+        ensures items { OnOk result (self.new.found.items ≡ []) }
+        ensures set { OnOk result (IsPlaceSet count self.new) }
+    {
+        self.fit(count)?;
         self.found.clear();
+        Ok(())
+    }
+
+    /// Searches backwards from `sources` and stops at `header`: whether the edges from the sources to `header`
+    /// close at most 256 words into a loop, whose places the set then has.
+    pub fn search(
+        &mut self,
+        before: &[Vec<usize>],
+        header: usize,
+        sources: &[usize],
+    ) -> Result<bool, AllocError>
+        requires within { AreRowsWithin (rows before.now) }
+        requires header { header < length before.now }
+        requires sources { (x : ℕ) → Contains sources.now x → x < length before.now }
+        ensures places { IfOk result (λ small. HasSearched small (rows before.now) header sources.now
+            self.new.found.items) }
+        ensures set { OnOk result (IsPlaceSet (length before.now) self.new) }
+    {
+        self.fit(before.len())?;
+        search(before, &mut self.slots, &mut self.found, header, sources)
     }
 }

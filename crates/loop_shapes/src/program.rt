@@ -6,7 +6,7 @@ ghost use Rattle.loop_shapes.specs.Net.{IsNet, HasBody, graph_of};
 ghost use Rattle.loop_data.specs.Paths.{Leads};
 ghost use Rattle.loop_shapes.specs.Places.{at, count_of};
 ghost use Rattle.loop_shapes.specs.Program.{IsProgram, program_graph};
-ghost use Rattle.loop_shapes.specs.Search.{IsIndexed};
+ghost use Rattle.loop_shapes.specs.PlaceSet.{IsPlaceSet};
 ghost use Rattle.loop_data.specs.Sets.{IsListOf};
 ghost use Rattle.loop_shapes.specs.Lines.{IsRowOf};
 
@@ -16,7 +16,7 @@ use crate::closed::closed_rows;
 use crate::net::{Net, find};
 use crate::numbers::{astray_flags, nodes};
 use crate::open::without;
-use crate::search::search;
+use crate::place_set::PlaceSet;
 use loop_data::flow::{place_of, row};
 use std::alloc::{AllocError, Global};
 use strong_components::Successors;
@@ -39,23 +39,17 @@ pub struct Program<'a> {
 }
 
 /// The program of a net.
-pub fn program_of<'a>(
-    alloc: Global,
-    net: Net<'a>,
-    slots: &mut [usize],
-    found: &mut Vec<usize>,
-) -> Result<Program<'a>, AllocError>
+pub fn program_of<'a>(net: Net<'a>, set: &mut PlaceSet) -> Result<Program<'a>, AllocError>
     requires net { IsNet net }
     requires few { count_of (graph_of net) < 2 ^ 32 }
-    requires count { length slots.old ≡ count_of (graph_of net) }
     ensures program { IfOk result IsProgram }
     ensures graph { IfOk result (λ p. program_graph p ≡ graph_of net.entry) }
 {
-    let mut around = none_around(alloc, net.at.len())?;
-    let closed = closed_rows(alloc, &net, slots, found, &mut around)?;
-    let next = nodes(alloc, &net)?;
-    let open_next = without(alloc, next.as_slice(), closed.as_slice())?;
-    let astray = astray_flags(alloc, &net)?;
+    let mut around = none_around(set.alloc, net.at.len())?;
+    let closed = closed_rows(&net, set, &mut around)?;
+    let next = nodes(set.alloc, &net)?;
+    let open_next = without(set.alloc, next.as_slice(), closed.as_slice())?;
+    let astray = astray_flags(set.alloc, &net)?;
     Ok(Program {
         net,
         closed,
@@ -113,51 +107,29 @@ pub fn is_header_at(program: &Program, place: usize) -> bool
     !sources_of(program, place).is_empty()
 }
 
-/// Searches for the words of the loop at a place: whether they are at most 256, whose places `found` then has.
-pub fn find_body(
-    program: &Program,
-    slots: &mut [usize],
-    found: &mut Vec<usize>,
-    header: usize,
-) -> Result<bool, AllocError>
+/// Searches for the words of the loop at a place: whether they are at most 256, whose places the set then has.
+pub fn find_body(program: &Program, set: &mut PlaceSet, header: usize) -> Result<bool, AllocError>
     requires program { IsProgram program.now }
-    requires count { length slots.old ≡ count_of (program_graph program.now) }
     requires within { header < count_of (program_graph program.now) }
     requires header { IsHeader (program_graph program.now) (at (program_graph program.now) header) }
     ensures body { IfOk result (λ small. HasBody small (program_graph program.now)
-        (at (program_graph program.now) header) found.new.items) }
-    ensures indexed { OnOk result (IsIndexed found.new.items slots.new) }
+        (at (program_graph program.now) header) set.new.found.items) }
+    ensures set { OnOk result (IsPlaceSet (count_of (program_graph program.now)) set.new) }
 {
-    search(
+    set.search(
         program.net.before.as_slice(),
-        slots,
-        found,
         header,
         sources_of(program, header),
     )
 }
 
 /// The words of the loop at an address, in order; none where no loop stands there.
-pub fn body_at(
-    alloc: Global,
-    program: &Program,
-    slots: &mut [usize],
-    found: &mut Vec<usize>,
-    x: u64,
-) -> Result<Vec<u64>, AllocError>
+pub fn body_at(program: &Program, set: &mut PlaceSet, x: u64) -> Result<Vec<u64>, AllocError>
     requires program { IsProgram program.now }
-    requires count { length slots.old ≡ count_of (program_graph program.now) }
     ensures { IfOk result (λ v. IsListOf (InBody (program_graph program.now) x) v.items) }
 {
     match find(&program.net, x) {
-        Some(place) => body_of(
-            alloc,
-            &program.net,
-            slots,
-            found,
-            place,
-            sources_of(program, place),
-        ),
-        None => Ok(Vec::new(alloc)),
+        Some(place) => body_of(&program.net, set, place, sources_of(program, place)),
+        None => Ok(Vec::new(set.alloc)),
     }
 }

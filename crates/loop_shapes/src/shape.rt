@@ -8,7 +8,6 @@ ghost use Rattle.loop_shapes.specs.Outer.{IsAcyclic};
 ghost use Rattle.loop_shapes.specs.PlaceSet.{IsPlaceSet};
 ghost use Rattle.loop_shapes.specs.Places.{at, count_of};
 ghost use Rattle.loop_shapes.specs.Program.{IsProgram, program_graph};
-ghost use Rattle.loop_shapes.specs.Search.{IsIndexed};
 
 use crate::cycles::is_acyclic;
 use crate::exits::{back_of, exit_of, is_outermost, is_passed, stays};
@@ -27,7 +26,6 @@ fn is_exit_branch(
     exit: usize,
 ) -> Result<bool, AllocError>
     requires body { IsLoopBody body.now }
-    requires others { IsPlaceSet (count_of (body_graph body.now)) others.old }
     requires back { back < count_of (body_graph body.now) }
     requires closed { IsClosed (body_graph body.now) (header_of body.now) (at (body_graph body.now) back) }
     requires among { Contains body.now.places.now exit }
@@ -37,7 +35,6 @@ fn is_exit_branch(
     ensures one { IsLeftOnlyFrom (body_graph body.now) (header_of body.now) (at (body_graph body.now) exit)
         → IsSide (body_graph body.now) (header_of body.now) (at (body_graph body.now) exit)
         → (to : ℕ) × IsOneExit (body_graph body.now) (header_of body.now) (at (body_graph body.now) exit, to) }
-    ensures others { OnOk result (IsPlaceSet (count_of (body_graph body.now)) others.new) }
 {
     if !stays(body, exit) {
         return Ok(false);
@@ -62,10 +59,8 @@ fn is_exit_branch(
 // its inner loops have.
 fn own_shape(body: &LoopBody, others: &mut PlaceSet) -> Result<Option<(usize, usize)>, AllocError>
     requires body { IsLoopBody body.now }
-    requires others { IsPlaceSet (count_of (body_graph body.now)) others.old }
-    ensures shape { IfOk result (λ o. MatchOption o (¬ IsShaped (body_graph body.now) (header_of body.now))
+    ensures { IfOk result (λ o. MatchOption o (¬ IsShaped (body_graph body.now) (header_of body.now))
         (HasOwnShapeAt (body_graph body.now) (header_of body.now))) }
-    ensures others { OnOk result (IsPlaceSet (count_of (body_graph body.now)) others.new) }
 {
     let Some(back) = back_of(body.program, body.header) else {
         return Ok(None);
@@ -84,31 +79,27 @@ fn own_shape(body: &LoopBody, others: &mut PlaceSet) -> Result<Option<(usize, us
 /// cycle but through back edges.
 pub fn own_shape_at(
     program: &Program,
-    slots: &[usize],
-    places: &[usize],
+    set: &PlaceSet,
     others: &mut PlaceSet,
     acyclic: bool,
     header: usize,
 ) -> Result<Option<(usize, usize)>, AllocError>
     requires program { IsProgram program.now }
-    requires count { length slots.now ≡ count_of (program_graph program.now) }
-    requires indexed { IsIndexed places.now slots.now }
-    requires short { length places.now ≤ 256 }
+    requires set { IsPlaceSet (count_of (program_graph program.now)) set.now }
+    requires short { length set.now.found.items ≤ 256 }
     requires header { header < count_of (program_graph program.now) }
     requires words { AreAt (program_graph program.now)
-        (InBody (program_graph program.now) (at (program_graph program.now) header)) places.now }
+        (InBody (program_graph program.now) (at (program_graph program.now) header)) set.now.found.items }
     requires known { IsTrue acyclic → IsAcyclic (program_graph program.now) (at (program_graph program.now) header) }
-    requires others { IsPlaceSet (count_of (program_graph program.now)) others.old }
-    ensures shape { IfOk result (λ o. MatchOption o
+    ensures { IfOk result (λ o. MatchOption o
         (¬ IsShaped (program_graph program.now) (at (program_graph program.now) header))
         (HasOwnShapeAt (program_graph program.now) (at (program_graph program.now) header))) }
-    ensures others { OnOk result (IsPlaceSet (count_of (program_graph program.now)) others.new) }
 {
     let body = LoopBody {
         program,
         header,
-        places,
-        slots,
+        places: set.found.as_slice(),
+        slots: set.slots.as_slice(),
         acyclic,
     };
     own_shape(&body, others)
@@ -117,28 +108,24 @@ pub fn own_shape_at(
 /// Whether the loop at a place has no cycle but through back edges, from the places of its words.
 pub fn is_acyclic_at(
     program: &Program,
-    slots: &[usize],
-    places: &[usize],
+    set: &PlaceSet,
     others: &mut PlaceSet,
     header: usize,
 ) -> Result<bool, AllocError>
     requires program { IsProgram program.now }
-    requires count { length slots.now ≡ count_of (program_graph program.now) }
-    requires indexed { IsIndexed places.now slots.now }
-    requires short { length places.now ≤ 256 }
+    requires set { IsPlaceSet (count_of (program_graph program.now)) set.now }
+    requires short { length set.now.found.items ≤ 256 }
     requires header { header < count_of (program_graph program.now) }
     requires words { AreAt (program_graph program.now)
-        (InBody (program_graph program.now) (at (program_graph program.now) header)) places.now }
-    requires others { IsPlaceSet (count_of (program_graph program.now)) others.old }
-    ensures acyclic { IfOk result (λ b. IsTrue b
+        (InBody (program_graph program.now) (at (program_graph program.now) header)) set.now.found.items }
+    ensures { IfOk result (λ b. IsTrue b
         ↔ IsAcyclic (program_graph program.now) (at (program_graph program.now) header)) }
-    ensures others { OnOk result (IsPlaceSet (count_of (program_graph program.now)) others.new) }
 {
     let body = LoopBody {
         program,
         header,
-        places,
-        slots,
+        places: set.found.as_slice(),
+        slots: set.slots.as_slice(),
         acyclic: false,
     };
     is_acyclic(&body, others)

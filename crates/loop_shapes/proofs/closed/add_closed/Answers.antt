@@ -1,4 +1,4 @@
-use Rattle.std.proofs.Common.{◌≡◌, ◌<◌, ◌⊎◌, ℕ, inl, inr, List, [], ◌∷◌, ◌++◌, Some, Option, true, false, refl, sym, subst, ap, ◌∙◌, arith}
+use Rattle.std.proofs.Common.{◌≡◌, ◌<◌, ◌⊎◌, ℕ, length, inl, inr, List, [], ◌∷◌, ◌++◌, Some, Option, true, false, refl, sym, subst, ap, ◌∙◌, arith}
 use Rattle.std.specs.List.{Contains}
 use Rattle.std.proofs.lemmas.List.{get_or_past}
 use Rattle.std.proofs.lemmas.Bool.{cases_lt}
@@ -20,13 +20,15 @@ returns-clause-tried c = tried_closed (graph_of c.args.net.now) c.args.header c.
 pub settle-requires-clause-within : goal.settle-requires-clause-within
 settle-requires-clause-within c i m e =
     let l = entries_within (graph_of c.args.net.now) true c.args.header c.args.row.now.items c.args.around.now.innermost.items c.requires.around.innermost i m e in
-    let n = c.requires.count in
+    let n = c.in_ok-is_closed.ensures.set.count in
+    let k = ap length c.deref-2.ensures.value in
     omega arith
 
 pub settle-requires-2-clause-within : goal.settle-requires-2-clause-within
 settle-requires-2-clause-within c i m e =
     let l = entries_within (graph_of c.args.net.now) false c.args.header c.args.row.now.items c.args.around.now.outermost.items c.requires.around.outermost i m e in
-    let n = c.requires.count in
+    let n = c.in_ok-is_closed.ensures.set.count in
+    let k = ap length c.deref-4.ensures.value in
     omega arith
 
 grown : (old new : List ℕ) (u : ℕ) → new ≡ old ++ u ∷ [] → (v : ℕ) → Contains new v → Contains old v ⊎ (v ≡ u)
@@ -43,11 +45,11 @@ returns-clause-around c =
     let h = c.args.header in
     let u = c.args.source in
     let row = c.args.row.now.items in
-    let found = c.is_closed.new.found.items in
+    let found = c.is_closed.new.set.found.items in
     let closed = passed c.in_ok-is_closed.field-0 c.in_ok-is_closed.ensures.closed c.if-not-branch.false in
     let part = c.in_ok-is_closed.ensures.part c.if-not-branch.false in
     let more = grown row c.push.new.self.items u c.in_ok-push.ensures.items in
     record {
       innermost = rounds_more G n.from_starts n.ordered h u found row c.push.new.self.items c.args.around.now.innermost.items c.settle.new.entries.items c.requires.header closed part more true c.requires.around.innermost (subst (λ (xs : List ℕ). IsSettled true xs xs h c.args.around.now.innermost.items c.settle.new.entries.items) c.deref.ensures.value c.settle.ensures);
-      outermost = rounds_more G n.from_starts n.ordered h u found row c.push.new.self.items c.args.around.now.outermost.items c.settle-2.new.entries.items c.requires.header closed part more false c.requires.around.outermost (subst (λ (xs : List ℕ). IsSettled false xs xs h c.args.around.now.outermost.items c.settle-2.new.entries.items) c.deref-2.ensures.value c.settle-2.ensures);
+      outermost = rounds_more G n.from_starts n.ordered h u found row c.push.new.self.items c.args.around.now.outermost.items c.settle-2.new.entries.items c.requires.header closed part more false c.requires.around.outermost (subst (λ (xs : List ℕ). IsSettled false xs xs h c.args.around.now.outermost.items c.settle-2.new.entries.items) c.deref-3.ensures.value c.settle-2.ensures);
     }

@@ -12,18 +12,18 @@ use Rattle.loop_shapes.proofs.Searches.{apart_from_indexed}
 use Rattle.loop_shapes.proofs.cycles.is_acyclic.Goals as goal
 use Rattle.loop_data.specs.Flows.{items_of, row_at, rows}
 
-pub returns-then-body-clause-acyclic : goal.returns-then-body-clause-acyclic
-returns-then-body-clause-acyclic c = (λ _. c.requires.body.known c.if-body.true, λ _. refl)
+pub returns-then-body : goal.returns-then-body
+returns-then-body c = (λ _. c.requires.known c.if-body.true, λ _. refl)
 
 pub take_out_all-requires-clause-within : goal.take_out_all-requires-clause-within
-take_out_all-requires-clause-within c i m = (c.requires.body.words.each i m).0
+take_out_all-requires-clause-within c i m = (c.requires.words.each i m).0
 
 pub loop-next-init : goal.loop-next-init
-loop-next-init c = (c.in_ok-take_out_all.ensures.gone, taking_started c.args.body.now.program.now.open_next.items c.args.body.now.places.now c.clear.new.self.found.items c.take_out_all.new.gone.found.items c.clear.ensures.items c.in_ok-take_out_all.ensures.more)
+loop-next-init c = (c.in_ok-take_out_all.ensures.gone, taking_started c.args.body.now.program.now.open_next.items c.args.body.now.places.now c.clear.new.self.found.items c.take_out_all.new.gone.found.items c.in_ok-clear.ensures.items c.in_ok-take_out_all.ensures.more)
 
-pub returns-then-len-body-clause-acyclic : goal.returns-then-len-body-clause-acyclic
-returns-then-len-body-clause-acyclic c =
-    let b = c.requires.body in
+pub returns-then-len-body : goal.returns-then-len-body
+returns-then-len-body c =
+    let b = c.requires in
     let gone = c.loop-next.gone.found.items in
     let inv = c.loop-next.invariant in
     let e = c.if-len-body.true in
@@ -32,7 +32,7 @@ returns-then-len-body-clause-acyclic c =
 
 pub row-requires : goal.row-requires
 row-requires c =
-    let b = c.requires.body in
+    let b = c.requires in
     let gone = c.loop-next.gone.found.items in
     let next = c.loop-next.next in
     let more : next < length gone = omega (arith, c.loop-next.gone.found.ok.0) in
@@ -47,7 +47,7 @@ pub take_out_all-requires-in-loop-next-clause-within : goal.take_out_all-require
 take_out_all-requires-in-loop-next-clause-within c i m =
     let at = c.index-at.result.now in
     let same = c.row.ensures ∙ ap (λ (vs : List (Vec ℕ Global)). row_at (rows vs) at) c.as_slice.ensures.value in
-    (c.requires.body.program.net.sources.each at i (subst (λ (xs : List ℕ). Contains xs i) same m)).0
+    (c.requires.program.net.sources.each at i (subst (λ (xs : List ℕ). Contains xs i) same m)).0
 
 pub loop-next-smaller : goal.loop-next-smaller
 loop-next-smaller c =
@@ -59,7 +59,7 @@ loop-next-smaller c =
 
 pub loop-next-preserved : goal.loop-next-preserved
 loop-next-preserved c =
-    let b = c.requires.body in
+    let b = c.requires in
     let places = c.args.body.now.places.now in
     let nodes = c.args.body.now.program.now.open_next.items in
     let gone = c.loop-next.gone.found.items in
@@ -75,9 +75,9 @@ loop-next-preserved c =
           subst (λ (xs : List ℕ). Contains xs i) (sym same) (subst (λ (z : ℕ). Contains (row_at (rows c.args.body.now.program.now.net.before.items) z) i) (sym at) s)) inv.1 c.in_ok-take_out_all-2.ensures.more,
     )
 
-pub returns-clause-acyclic : goal.returns-clause-acyclic
-returns-clause-acyclic c =
-    let b = c.requires.body in
+pub returns : goal.returns
+returns c =
+    let b = c.requires in
     let G = body_graph c.args.body.now in
     let h = header_of c.args.body.now in
     let places = c.args.body.now.places.now in

@@ -10,7 +10,7 @@ use Rattle.loop_shapes.proofs.entry.part_list.Goals as goal
 
 pub push_addresses-requires : goal.push_addresses-requires
 push_addresses-requires c i m =
-    let p = part_small (graph_of c.args.net.now) c.args.header c.args.source c.part.new.found.items c.in_ok-part.field-0 c.if-not-branch.false c.in_ok-part.ensures.part in
+    let p = part_small (graph_of c.args.net.now) c.args.header c.args.source c.part.new.set.found.items c.in_ok-part.field-0 c.if-not-branch.false c.in_ok-part.ensures.part in
     let l = (p.1.each i (subst (λ (xs : List ℕ). Contains xs i) c.deref.ensures.value m)).0 in
     let e = ap length (c.as_slice.ensures.value ∙ c.requires.net.addresses_are) in
     omega arith
@@ -20,7 +20,7 @@ returns c =
     let G = graph_of c.args.net.now in
     let h = c.args.header in
     let u = c.args.source in
-    let found = c.part.new.found.items in
+    let found = c.part.new.set.found.items in
     let p = part_small G h u found c.in_ok-part.field-0 c.if-not-branch.false c.in_ok-part.ensures.part in
     let here = c.as_slice.ensures.value ∙ c.requires.net.addresses_are in
     let old = c.new-all.result.items in

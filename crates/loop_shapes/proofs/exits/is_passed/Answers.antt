@@ -7,8 +7,8 @@ use Rattle.loop_shapes.proofs.Leaving.{few_past, part_large, passed_at_header, p
 use Rattle.loop_shapes.proofs.Parts.{part_small}
 use Rattle.loop_shapes.proofs.exits.is_passed.Goals as goal
 
-pub returns-then-exit-body-clause-passed : goal.returns-then-exit-body-clause-passed
-returns-then-exit-body-clause-passed c =
+pub returns-then-exit-body : goal.returns-then-exit-body
+returns-then-exit-body c =
     let G = body_graph c.args.body.now in
     let h = header_of c.args.body.now in
     (λ _. subst (λ (e : ℕ). ¬ ReachesPast G (at G e) h (at G c.args.back)) (sym c.if-exit-body.true) (passed_at_header G h (at G c.args.back)), λ _. refl)
@@ -16,17 +16,17 @@ returns-then-exit-body-clause-passed c =
 pub part-requires-clause-header : goal.part-requires-clause-header
 part-requires-clause-header c = (c.requires.body.words.each c.args.exit c.requires.among).0
 
-pub returns-then-not-branch-clause-passed : goal.returns-then-not-branch-clause-passed
-returns-then-not-branch-clause-passed c =
+pub returns-then-not-branch : goal.returns-then-not-branch
+returns-then-not-branch c =
     let b = c.requires.body in
     let G = body_graph c.args.body.now in
     let h = header_of c.args.body.now in
-    let large = part_large G c.args.exit c.args.back c.part.new.found.items c.in_ok-part.field-0 c.if-not-branch.true c.in_ok-part.ensures.part in
+    let large = part_large G c.args.exit c.args.back c.part.new.set.found.items c.in_ok-part.field-0 c.if-not-branch.true c.in_ok-part.ensures.part in
     (λ t. absurd (false≢true t), λ none. absurd (large (few_past G h (at G c.args.back) (at G c.args.exit) c.args.body.now.places.now b.words b.short c.requires.closed (b.words.each c.args.exit c.requires.among).1 none)))
 
-pub returns-clause-passed : goal.returns-clause-passed
-returns-clause-passed c =
+pub returns : goal.returns
+returns c =
     let b = c.requires.body in
     let G = body_graph c.args.body.now in
-    let p = part_small G c.args.exit c.args.back c.part.new.found.items c.in_ok-part.field-0 c.if-not-branch.false c.in_ok-part.ensures.part in
-    passed_by G b.program.net.ordered c.args.body.now.header c.args.back c.args.exit c.part.new.found.items c.has.result p b.header (b.words.each c.args.exit c.requires.among).0 c.if-exit-body.false c.has.ensures
+    let p = part_small G c.args.exit c.args.back c.part.new.set.found.items c.in_ok-part.field-0 c.if-not-branch.false c.in_ok-part.ensures.part in
+    passed_by G b.program.net.ordered c.args.body.now.header c.args.back c.args.exit c.part.new.set.found.items c.has.result p b.header (b.words.each c.args.exit c.requires.among).0 c.if-exit-body.false c.has.ensures

@@ -15,7 +15,7 @@ loop-x-init c =
     let h = c.args.header in
     let v = c.in_ok-level.field-0 in
     let e = c.in_ok-push.ensures.items ∙ ap (λ (q : List Level). q ++ v ∷ []) c.new-all.ensures.items in
-    (c.in_ok-level.ensures.others, level_push G h [] c.push.new.self.items v h [] e c.in_ok-level.ensures.header (c.in_ok-level.ensures.level h c.requires.is) (refl, All-nil (IsLevel G h)))
+    level_push G h [] c.push.new.self.items v h [] e c.in_ok-level.ensures.header (c.in_ok-level.ensures.level h c.requires.is) (refl, All-nil (IsLevel G h))
 
 pub level-requires-in-loop-x-clause-among : goal.level-requires-in-loop-x-clause-among
 level-requires-in-loop-x-clause-among c =
@@ -26,10 +26,10 @@ pub loop-x-preserved : goal.loop-x-preserved
 loop-x-preserved c =
     let G = program_graph c.args.program.now in
     let h = c.args.header in
-    (c.in_ok-level-2.ensures.others, level_more G h c.as_slice-x-items.result.now c.loop-x.x-index c.loop-x.all.items c.push-in-loop-x.new.self.items c.in_ok-level-2.field-0 c.loop-x-test.true c.in_ok-push-2.ensures.items c.in_ok-level-2.ensures.header (c.in_ok-level-2.ensures.level h c.requires.is) c.loop-x.invariant.1)
+    level_more G h c.as_slice-x-items.result.now c.loop-x.x-index c.loop-x.all.items c.push-in-loop-x.new.self.items c.in_ok-level-2.field-0 c.loop-x-test.true c.in_ok-push-2.ensures.items c.in_ok-level-2.ensures.header (c.in_ok-level-2.ensures.level h c.requires.is) c.loop-x.invariant
 
-pub returns-clause-levels : goal.returns-clause-levels
-returns-clause-levels c =
+pub returns : goal.returns
+returns c =
     let G = program_graph c.args.program.now in
     let h = c.args.header in
-    levels_by G h c.args.nest.now c.as_slice-x-items.result.now c.loop-x.x-index c.loop-x.all.items c.requires.is (subst (IsListOf (InDifference c.args.nest.now (h ∷ []))) (sym c.as_slice-x-items.ensures.value) c.in_ok-inner.ensures) c.loop-x-test.false c.loop-x.invariant.1
+    levels_by G h c.args.nest.now c.as_slice-x-items.result.now c.loop-x.x-index c.loop-x.all.items c.requires.is (subst (IsListOf (InDifference c.args.nest.now (h ∷ []))) (sym c.as_slice-x-items.ensures.value) c.in_ok-inner.ensures) c.loop-x-test.false c.loop-x.invariant

@@ -2,10 +2,9 @@ use Rattle.std.proofs.Common.{◌≡◌, ◌∷◌, map, take}
 use Rattle.std.specs.List.{All}
 use Rattle.loop_data.specs.declared.shape.Level.{Level}
 use Rattle.loop_data.specs.Loops.{IsLevel}
-use Rattle.loop_shapes.specs.PlaceSet.{IsPlaceSet}
 use Rattle.loop_shapes.specs.Places.{count_of}
 use Rattle.loop_shapes.specs.Program.{program_graph}
 use Rattle.loop_shapes.proofs.levels.levels_of.Given as goal
 
 abbrev pub invariant-loop-x : goal.invariant-loop-x
-invariant-loop-x l = IsPlaceSet (count_of (program_graph l.program)) l.others × ((map (λ (v : Level). v.header) l.all.items ≡ l.header ∷ take l.x-index l.x-items) × All (IsLevel (program_graph l.program) l.header) l.all.items)
+invariant-loop-x l = (map (λ (v : Level). v.header) l.all.items ≡ l.header ∷ take l.x-index l.x-items) × All (IsLevel (program_graph l.program) l.header) l.all.items

@@ -16,7 +16,7 @@ pub loop-source-preserved : goal.loop-source-preserved
 loop-source-preserved c =
     let G = graph_of c.args.net.now in
     let u = get_or c.args.row.now c.loop-source.source-index 0 in
-    below_more _ _ c.loop-source.invariant (small_by G c.args.header u c.part.new.found.items (part_small G c.args.header u c.part.new.found.items c.in_ok-part.field-0 c.if-not-branch.false c.in_ok-part.ensures.part))
+    below_more _ _ c.loop-source.invariant (small_by G c.args.header u c.part.new.set.found.items (part_small G c.args.header u c.part.new.set.found.items c.in_ok-part.field-0 c.if-not-branch.false c.in_ok-part.ensures.part))
 
 pub returns : goal.returns
 returns c =

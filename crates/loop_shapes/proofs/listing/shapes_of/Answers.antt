@@ -12,7 +12,7 @@ numbers_of-requires-clause-steps c = subst (AreNodes (program_graph c.args.progr
 pub loop-place-init : goal.loop-place-init
 loop-place-init c =
     let G = program_graph c.args.program.now in
-    (c.in_ok-shaped.ensures.others, subst (AreLoopsBelow G 0) (sym c.new-all.ensures.items) (below_none G))
+    subst (AreLoopsBelow G 0) (sym c.new-all.ensures.items) (below_none G)
 
 pub returns : goal.returns
 returns c =
@@ -21,4 +21,4 @@ returns c =
     let t = c.loop-place-test.false in
     let v = c.args.program.now.net.at in
     let le : count_of G ≤ c.loop-place.place = omega (arith, v.ok.0, c.len-place-end.ensures) in
-    below_all G c.loop-place.place c.loop-place.all.items le c.loop-place.invariant.1
+    below_all G c.loop-place.place c.loop-place.all.items le c.loop-place.invariant

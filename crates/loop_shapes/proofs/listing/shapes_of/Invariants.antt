@@ -1,8 +1,7 @@
 use Rattle.loop_shapes.specs.Below.{AreLoopsBelow}
-use Rattle.loop_shapes.specs.PlaceSet.{IsPlaceSet}
 use Rattle.loop_shapes.specs.Places.{count_of}
 use Rattle.loop_shapes.specs.Program.{program_graph}
 use Rattle.loop_shapes.proofs.listing.shapes_of.Given as goal
 
 abbrev pub invariant-loop-place : goal.invariant-loop-place
-invariant-loop-place l = IsPlaceSet (count_of (program_graph l.program)) l.others × AreLoopsBelow (program_graph l.program) l.place l.all.items
+invariant-loop-place l = AreLoopsBelow (program_graph l.program) l.place l.all.items

@@ -8,19 +8,19 @@ use Rattle.loop_shapes.proofs.nest.acyclic_flags.Goals as goal
 pub loop-place-init : goal.loop-place-init
 loop-place-init c =
     let G = program_graph c.args.program.now in
-    (c.requires.others, known_none G (IsAcyclic G) c.new-all.result.items c.new-all.ensures.items)
+    known_none G (IsAcyclic G) c.new-all.result.items c.new-all.ensures.items
 
 pub loop-place-preserved : goal.loop-place-preserved
 loop-place-preserved c =
     let G = program_graph c.args.program.now in
-    (c.in_ok-is_acyclic_outer.ensures.others, known_push G (IsAcyclic G) c.loop-place.place c.loop-place.all.items c.push.new.self.items c.in_ok-is_acyclic_outer.field-0 c.in_ok-push.ensures.items c.in_ok-is_acyclic_outer.ensures.acyclic c.loop-place.invariant.1)
+    known_push G (IsAcyclic G) c.loop-place.place c.loop-place.all.items c.push.new.self.items c.in_ok-is_acyclic_outer.field-0 c.in_ok-push.ensures.items c.in_ok-is_acyclic_outer.ensures c.loop-place.invariant
 
-pub returns-clause-flags : goal.returns-clause-flags
-returns-clause-flags c =
+pub returns : goal.returns
+returns c =
     let G = program_graph c.args.program.now in
     let n = ap length c.requires.program.net.addresses_are in
     let l = c.loop-place.auto.place-end in
     let t = c.loop-place-test.false in
     let v = c.args.program.now.net.at in
     let e : c.loop-place.place ≡ count_of G = omega (arith, v.ok.0, c.len-place-end.ensures) in
-    known_all G (IsAcyclic G) c.loop-place.place c.loop-place.all.items e c.loop-place.invariant.1
+    known_all G (IsAcyclic G) c.loop-place.place c.loop-place.all.items e c.loop-place.invariant

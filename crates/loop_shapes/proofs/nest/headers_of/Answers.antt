@@ -13,9 +13,9 @@ loop-place-init c = headers_none (program_graph c.args.program.now) c.new-all.re
 pub loop-place-preserved : goal.loop-place-preserved
 loop-place-preserved c = headers_more (program_graph c.args.program.now) c.requires.program.net.ordered c.args.found.now c.args.slots.now c.requires.indexed c.requires.each c.loop-place.place-index c.loop-place-test.true c.loop-place.all.items c.add_header.new.all.items c.loop-place.invariant c.in_ok-add_header.ensures
 
-pub returns-then-len-gt4 : goal.returns-then-len-gt4
-returns-then-len-gt4 c h b =
-    let t = c.if-len-gt4.true in
+pub returns-then-len-gt-LOOPS : goal.returns-then-len-gt-LOOPS
+returns-then-len-gt-LOOPS c h b =
+    let t = c.if-len-gt-LOOPS.true in
     let more : 4 < length c.loop-place.all.items = omega (arith, c.len.ensures, c.loop-place.all.ok.0) in
     headers_many (program_graph c.args.program.now) c.requires.program.net.ordered c.args.found.now c.args.slots.now c.requires.indexed c.requires.each c.loop-place.place-index c.loop-place-test.true h c.loop-place.all.items b c.loop-place.invariant more
 

@@ -9,12 +9,12 @@ use Rattle.loop_shapes.proofs.nest.shape_flags.Goals as goal
 pub loop-place-preserved : goal.loop-place-preserved
 loop-place-preserved c =
     let G = program_graph c.args.program.now in
-    (c.in_ok-is_shaped.ensures.others, flags_push (λ i. IsShaped G (at G i)) c.loop-place.all.items c.in_ok-is_shaped.field-0 c.loop-place.place c.push.new.self.items c.in_ok-push.ensures.items c.loop-place.invariant.1 c.in_ok-is_shaped.ensures.shaped)
+    flags_push (λ i. IsShaped G (at G i)) c.loop-place.all.items c.in_ok-is_shaped.field-0 c.loop-place.place c.push.new.self.items c.in_ok-push.ensures.items c.loop-place.invariant c.in_ok-is_shaped.ensures
 
-pub returns-clause-flags : goal.returns-clause-flags
-returns-clause-flags c =
+pub returns : goal.returns
+returns c =
     let G = program_graph c.args.program.now in
-    let inv = c.loop-place.invariant.1 in
+    let inv = c.loop-place.invariant in
     let n = ap length c.requires.program.net.addresses_are in
     let l = c.loop-place.auto.place-end in
     let t = c.loop-place-test.false in

@@ -1,12 +1,13 @@
-use Rattle.std.proofs.Common.{ℕ, List, length, ap, sym, subst, arith}
+use Rattle.std.proofs.Common.{◌≡◌, ℕ, List, length, ap, sym, subst, arith}
 use Rattle.std.specs.List.{Contains}
 use Rattle.std.proofs.lemmas.List.{length-map}
-use Rattle.std.proofs.lemmas.Result.{IfOk-weaker}
+use Rattle.std.proofs.lemmas.Result.{IfOk-weaker, on_ok_weaker}
 use Rattle.std.specs.declared.vec.Vec.{Vec}
 use Rattle.std.specs.declared.alloc.Global.{Global}
 use Rattle.loop_shapes.specs.Search.{HasSearched}
 use Rattle.loop_shapes.specs.Net.{HasBody}
-use Rattle.loop_shapes.specs.Places.{at}
+use Rattle.loop_shapes.specs.PlaceSet.{IsPlaceSet}
+use Rattle.loop_shapes.specs.Places.{at, count_of}
 use Rattle.loop_shapes.specs.Program.{program_graph}
 use Rattle.loop_shapes.proofs.Parts.{within, has_body}
 use Rattle.loop_shapes.proofs.program.find_body.Goals as goal
@@ -31,5 +32,13 @@ returns-clause-body c =
     let G = program_graph c.args.program.now in
     let h = c.args.header in
     let us = c.sources_of.result.now in
-    let found = c.search.new.found.items in
+    let found = c.search.new.self.found.items in
     IfOk-weaker c.search.result (λ small. HasSearched small (rows c.as_slice.result.now) h us found) (λ small. HasBody small G (at G h) found) (λ small a. has_body G n.ordered (rows c.args.program.now.net.before.items) n.sources h us c.requires.within c.sources_of.ensures c.requires.header found small (subst (λ (vs : List (Vec ℕ Global)). HasSearched small (rows vs) h us found) c.as_slice.ensures.value a)) c.search.ensures.places
+
+pub returns-clause-set : goal.returns-clause-set
+returns-clause-set c =
+    let n = c.requires.program.net.sources.count in
+    let k = length-map c.as_slice.result.now items_of in
+    let f = ap (λ (vs : List (Vec ℕ Global)). length (rows vs)) c.as_slice.ensures.value in
+    let e : length c.as_slice.result.now ≡ count_of (program_graph c.args.program.now) = omega arith in
+    on_ok_weaker c.search.result (subst (λ (m : ℕ). IsPlaceSet m c.search.new.self) e) c.search.ensures.set
