@@ -19,6 +19,13 @@ slot_of found slots x i j li lj e = sym (x.slot i li) ∙ ap (λ q. get_or slots
 pub apart_from_indexed : (found slots : List ℕ) → IsIndexed found slots → AreDifferent found
 apart_from_indexed found slots x i j lt lj e = let same = slot_of found slots x i j (omega arith) lj e in omega arith
 
+-- the numbers found are below the number of slots
+pub within_slots : (n : ℕ) (found slots : List ℕ) → length slots ≡ n → IsIndexed found slots → (i : ℕ) → Contains found i → i < n
+within_slots n found slots e x i c =
+    let is : get_or found c.0 0 ≡ i = get_or_default found c.0 0 i c.1 ∙ c.2 in
+    let l = x.below c.0 c.1 in
+    omega arith
+
 pub kept : (old xs new : List ℕ) → Grown old xs new → (y : ℕ) → Contains old y → Contains new y
 kept old xs new g y c =
     let l = c.1 in

@@ -33,19 +33,19 @@ pub record AreAt (G : Graph) (P : ℕ → Type 0) (found : List ℕ) : Type 0 wh
   pub each : (i : ℕ) → Contains found i → (i < count_of G) × P (at G i)
   pub every : (x : ℕ) → P x → IsAmong G found x
 
--- those places, at most 256
+-- those places of a set of at most 256 words
 abbrev pub AreFewAt : Graph → (ℕ → Type 0) → List ℕ → Type 0
 AreFewAt G P found = (length found ≤ 256) × AreAt G P found
 
--- at most 256 places, or that there are more
+-- those places, or that the set has more words
 abbrev pub HasFew : Bool → Graph → (ℕ → Type 0) → List ℕ → Type 0
 HasFew small G P found = MatchBool small (AreFewAt G P found) (¬ HasAtMost 256 P)
 
--- of the words of a loop's body
+-- the same of the words of a loop's body
 abbrev pub HasBody : Bool → Graph → ℕ → List ℕ → Type 0
 HasBody small G h found = HasFew small G (InBody G h) found
 
--- of the words that the edge from one place to another closes into a loop
+-- the same of the words that the edge from one place to another closes into a loop
 abbrev pub IsPart : Graph → ℕ → ℕ → List ℕ → Type 0
 IsPart G header source found = AreFewAt G (InPart G (at G header) (at G source)) found
 

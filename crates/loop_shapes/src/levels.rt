@@ -115,7 +115,7 @@ pub fn loop_at(
     if let Some(verdict) = early_verdict(&program.net, marks, &set.found, header, clean) {
         return Ok(judged(set.alloc, header, verdict));
     }
-    let Some(headers) = headers_of(set.alloc, program, &set.slots, &set.found)? else {
+    let Some(headers) = headers_of(program, set)? else {
         return Ok(judged(set.alloc, header, Verdict::Limit { at: header }));
     };
     let nest = in_order(headers);

@@ -8,7 +8,7 @@ ghost use Rattle.loop_shapes.specs.Nested.{HasTriedHeader};
 ghost use Rattle.loop_shapes.specs.Outer.{AreKnown, IsAcyclic};
 ghost use Rattle.loop_shapes.specs.Places.{AreFlags, at, count_of};
 ghost use Rattle.loop_shapes.specs.Program.{IsProgram, program_graph};
-ghost use Rattle.loop_shapes.specs.Search.{IsIndexed};
+ghost use Rattle.loop_shapes.specs.PlaceSet.{IsPlaceSet};
 ghost use Rattle.loop_data.specs.Sets.{IsListOf, HasAtMost};
 ghost use Rattle.loop_data.specs.Shape.{IsShaped, InNest};
 
@@ -18,7 +18,7 @@ use crate::outer::{is_outer, is_under};
 use crate::place_set::PlaceSet;
 use crate::program::{Program, body_at, find_body, is_among, is_header_at};
 use crate::shape::{is_acyclic_at, own_shape_at};
-use std::alloc::{AllocError, Global};
+use std::alloc::AllocError;
 
 // The number of loops that a nest may have.
 const LOOPS: usize = 4;
@@ -125,22 +125,16 @@ fn add_header(program: &Program, place: usize, all: &mut Vec<u64>) -> Result<(),
 }
 
 /// The headers of the loops of a nest, from the places of its root's words, unless they are more than 4.
-pub fn headers_of(
-    alloc: Global,
-    program: &Program,
-    slots: &[usize],
-    found: &[usize],
-) -> Result<Option<Vec<u64>>, AllocError>
+pub fn headers_of(program: &Program, set: &PlaceSet) -> Result<Option<Vec<u64>>, AllocError>
     requires program { IsProgram program.now }
-    requires each { (i : ℕ) → Contains found.now i → i < count_of (program_graph program.now) }
-    requires indexed { IsIndexed found.now slots.now }
+    requires set { IsPlaceSet (count_of (program_graph program.now)) set.now }
     ensures { IfOk result (λ o. (h : ℕ)
-        → AreAt (program_graph program.now) (InBody (program_graph program.now) h) found.now
+        → AreAt (program_graph program.now) (InBody (program_graph program.now) h) set.now.found.items
         → MatchOption o (¬ HasAtMost 4 (InNest (program_graph program.now) h))
         (λ v. HasAll (InNest (program_graph program.now) h) v.items)) }
 {
-    let mut all = Vec::new(alloc);
-    for place in found {
+    let mut all = Vec::new(set.alloc);
+    for place in set.found.as_slice() {
         if all.len() > LOOPS {
             return Ok(None);
         }

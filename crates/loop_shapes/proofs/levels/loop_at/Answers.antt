@@ -20,12 +20,6 @@ use Rattle.loop_shapes.proofs.LevelLists.{limit_loop, sound_loop}
 use Rattle.loop_shapes.proofs.Unsound.{body_there}
 use Rattle.loop_shapes.proofs.levels.loop_at.Goals as goal
 
-pub headers_of-requires-clause-each : goal.headers_of-requires-clause-each
-headers_of-requires-clause-each c i m =
-    let G = program_graph c.args.program.now in
-    let there = body_there c.in_ok-find_body.field-0 G (at G c.args.place) c.find_body.new.set.found.items c.if-not-branch.false c.in_ok-find_body.ensures.body in
-    (there.1.each i (subst (λ (xs : List ℕ). Contains xs i) c.deref-3.ensures.value m)).0
-
 pub returns-in_default-2-clause-is : goal.returns-in_default-2-clause-is
 returns-in_default-2-clause-is c =
     let G = program_graph c.args.program.now in
@@ -34,7 +28,7 @@ returns-in_default-2-clause-is c =
     let own = subst (IsHeader G) (sym is) c.requires.header in
     let found = c.find_body.new.set.found.items in
     let there = body_there c.in_ok-find_body.field-0 G (at G c.args.place) found c.if-not-branch.false c.in_ok-find_body.ensures.body in
-    let body = subst (λ (xs : List ℕ). AreAt G (InBody G h) xs) (sym c.deref-3.ensures.value) (subst (λ (x : ℕ). AreAt G (InBody G x) found) (sym is) there.1) in
+    let body = subst (λ (x : ℕ). AreAt G (InBody G x) found) (sym is) there.1 in
     let many = at_none (¬ HasAtMost 4 (InNest G h)) (λ (v : Vec ℕ Global). HasAll (InNest G h) v.items) c.in_ok-headers.field-0 c.in_default-2.is (c.in_ok-headers.ensures h body) in
     let j = c.judged-in_default-2.ensures in
     limit_loop G h c.judged-in_default-2.result own j.header j.early j.levels c.in_default.ensures (λ s. many s.loops)
@@ -47,7 +41,7 @@ returns-then-not-branch-2-clause-is c =
     let own = subst (IsHeader G) (sym is) c.requires.header in
     let found = c.find_body.new.set.found.items in
     let there = body_there c.in_ok-find_body.field-0 G (at G c.args.place) found c.if-not-branch.false c.in_ok-find_body.ensures.body in
-    let body = subst (λ (xs : List ℕ). AreAt G (InBody G h) xs) (sym c.deref-3.ensures.value) (subst (λ (x : ℕ). AreAt G (InBody G x) found) (sym is) there.1) in
+    let body = subst (λ (x : ℕ). AreAt G (InBody G x) found) (sym is) there.1 in
     let all = at_some (¬ HasAtMost 4 (InNest G h)) (λ (v : Vec ℕ Global). HasAll (InNest G h) v.items) c.in_ok-headers.field-0 c.in-Some-2.headers c.in-Some-2.is (c.in_ok-headers.ensures h body) in
     let nest = nest_in_order G h c.in-Some-2.headers.items c.in_order-nest.result.items all c.in_order-nest.ensures in
     let j = c.judged-then-not-branch-2.ensures in
@@ -61,7 +55,7 @@ levels_of-requires-clause-nest c =
     let own = subst (IsHeader G) (sym is) c.requires.header in
     let found = c.find_body.new.set.found.items in
     let there = body_there c.in_ok-find_body.field-0 G (at G c.args.place) found c.if-not-branch.false c.in_ok-find_body.ensures.body in
-    let body = subst (λ (xs : List ℕ). AreAt G (InBody G h) xs) (sym c.deref-3.ensures.value) (subst (λ (x : ℕ). AreAt G (InBody G x) found) (sym is) there.1) in
+    let body = subst (λ (x : ℕ). AreAt G (InBody G x) found) (sym is) there.1 in
     let all = at_some (¬ HasAtMost 4 (InNest G h)) (λ (v : Vec ℕ Global). HasAll (InNest G h) v.items) c.in_ok-headers.field-0 c.in-Some-2.headers c.in-Some-2.is (c.in_ok-headers.ensures h body) in
     let nest = nest_in_order G h c.in-Some-2.headers.items c.in_order-nest.result.items all c.in_order-nest.ensures in
     record { root = h; is = subst (IsListOf (InNest G h)) (sym c.as_slice-2.ensures.value) nest; shaped = c.in_default.ensures.1; small = passed c.in_ok-is_small_nest.field-0 (c.in_ok-is_small_nest.ensures h (subst (IsListOf (InNest G h)) (sym c.as_slice.ensures.value) nest)) c.if-not-branch-2.false }
@@ -74,7 +68,7 @@ levels_of-requires-clause-is c =
     let own = subst (IsHeader G) (sym is) c.requires.header in
     let found = c.find_body.new.set.found.items in
     let there = body_there c.in_ok-find_body.field-0 G (at G c.args.place) found c.if-not-branch.false c.in_ok-find_body.ensures.body in
-    let body = subst (λ (xs : List ℕ). AreAt G (InBody G h) xs) (sym c.deref-3.ensures.value) (subst (λ (x : ℕ). AreAt G (InBody G x) found) (sym is) there.1) in
+    let body = subst (λ (x : ℕ). AreAt G (InBody G x) found) (sym is) there.1 in
     let all = at_some (¬ HasAtMost 4 (InNest G h)) (λ (v : Vec ℕ Global). HasAll (InNest G h) v.items) c.in_ok-headers.field-0 c.in-Some-2.headers c.in-Some-2.is (c.in_ok-headers.ensures h body) in
     let nest = nest_in_order G h c.in-Some-2.headers.items c.in_order-nest.result.items all c.in_order-nest.ensures in
     subst (IsListOf (InNest G h)) (sym c.as_slice-2.ensures.value) nest
@@ -87,7 +81,7 @@ levels_of-requires-clause-among c =
     let own = subst (IsHeader G) (sym is) c.requires.header in
     let found = c.find_body.new.set.found.items in
     let there = body_there c.in_ok-find_body.field-0 G (at G c.args.place) found c.if-not-branch.false c.in_ok-find_body.ensures.body in
-    let body = subst (λ (xs : List ℕ). AreAt G (InBody G h) xs) (sym c.deref-3.ensures.value) (subst (λ (x : ℕ). AreAt G (InBody G x) found) (sym is) there.1) in
+    let body = subst (λ (x : ℕ). AreAt G (InBody G x) found) (sym is) there.1 in
     let all = at_some (¬ HasAtMost 4 (InNest G h)) (λ (v : Vec ℕ Global). HasAll (InNest G h) v.items) c.in_ok-headers.field-0 c.in-Some-2.headers c.in-Some-2.is (c.in_ok-headers.ensures h body) in
     let nest = nest_in_order G h c.in-Some-2.headers.items c.in_order-nest.result.items all c.in_order-nest.ensures in
     let list = subst (IsListOf (InNest G h)) (sym c.as_slice-2.ensures.value) nest in
@@ -101,7 +95,7 @@ returns-clause-is c =
     let own = subst (IsHeader G) (sym is) c.requires.header in
     let found = c.find_body.new.set.found.items in
     let there = body_there c.in_ok-find_body.field-0 G (at G c.args.place) found c.if-not-branch.false c.in_ok-find_body.ensures.body in
-    let body = subst (λ (xs : List ℕ). AreAt G (InBody G h) xs) (sym c.deref-3.ensures.value) (subst (λ (x : ℕ). AreAt G (InBody G x) found) (sym is) there.1) in
+    let body = subst (λ (x : ℕ). AreAt G (InBody G x) found) (sym is) there.1 in
     let all = at_some (¬ HasAtMost 4 (InNest G h)) (λ (v : Vec ℕ Global). HasAll (InNest G h) v.items) c.in_ok-headers.field-0 c.in-Some-2.headers c.in-Some-2.is (c.in_ok-headers.ensures h body) in
     let nest = nest_in_order G h c.in-Some-2.headers.items c.in_order-nest.result.items all c.in_order-nest.ensures in
     sound_loop G h _ own refl refl (subst (AreLevels G h) (sym c.new.ensures) c.in_ok-levels.ensures) c.in_default.ensures (passed c.in_ok-is_small_nest.field-0 (c.in_ok-is_small_nest.ensures h (subst (IsListOf (InNest G h)) (sym c.as_slice.ensures.value) nest)) c.if-not-branch-2.false)
