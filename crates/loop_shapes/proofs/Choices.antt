@@ -1,10 +1,7 @@
 -- Addresses that were chosen one by one.
 use Rattle.std.proofs.Common.{◌≡◌, ℕ, ◌↔◌, List, [], length, ◌≤◌, take, refl, sym, subst}
 use Rattle.std.specs.List.{Contains}
-use Rattle.loop_data.specs.declared.graph.Graph.{Graph}
 use Rattle.loop_data.specs.Sets.{IsListOf}
-use Rattle.loop_data.specs.Bodies.{IsHeader, InBody}
-use Rattle.loop_data.specs.Shape.{InNest}
 use Rattle.loop_shapes.specs.Gains.{Gained, HasAll}
 use Rattle.loop_shapes.specs.Difference.{InDifference}
 use Rattle.loop_shapes.proofs.Gains.{Among, gained_all, gained_to, all_from_nothing}

@@ -1,12 +1,12 @@
 -- The least place that is flagged.
-use Rattle.std.proofs.Common.{◌≡◌, ℕ, ◌+◌, ◌<◌, ◌≤◌, ◌⊎◌, ◌↔◌, inl, inr, Bool, true, false, Option, Some, None, min, if◌then◌else◌, List, [], ◌∷◌, length, get_or, map, take, refl, ap, sym, ◌∙◌, subst, arith}
+use Rattle.std.proofs.Common.{◌≡◌, ℕ, ◌+◌, ◌<◌, ◌≤◌, ◌⊎◌, ◌↔◌, inl, inr, Bool, true, false, Option, Some, None, min, if◌then◌else◌, List, [], length, get_or, map, take, refl, ap, sym, ◌∙◌, subst, arith}
 use Rattle.std.specs.List.{Contains}
 use Rattle.std.specs.Option.{MatchOption}
 use Rattle.std.proofs.lemmas.Bool.{cases_lt, false≢true}
 use Rattle.std.proofs.lemmas.List.{take_all, length-map}
 use Rattle.loop_data.specs.declared.graph.Graph.{Graph}
 use Rattle.loop_data.specs.Paths.{IsInOrder}
-use Rattle.loop_shapes.specs.Places.{AreFlags, count_of, at}
+use Rattle.loop_shapes.specs.Places.{AreFlags, at}
 use Rattle.loop_shapes.specs.declared.kind.Kind.{Kind}
 use Rattle.loop_data.specs.Bodies.{InBody}
 use Rattle.loop_data.specs.Early.{IsBodyWord, Lacks, IsMisshapen}

@@ -7,7 +7,7 @@ use Rattle.std.proofs.lemmas.List.Elements.{Contains-get_or}
 use Rattle.strong_components.specs.declared.graph.Successors.{Successors}
 use Rattle.strong_components.specs.Graph.{IsEdge, LeadsTo}
 use Rattle.loop_data.specs.declared.graph.Graph.{Graph}
-use Rattle.loop_data.specs.Paths.{addresses, IsInOrder, Leads, Reaches, IsWord}
+use Rattle.loop_data.specs.Paths.{addresses, IsInOrder, Leads}
 use Rattle.loop_data.specs.Sets.{HasAtMost}
 use Rattle.loop_data.specs.Bodies.{IsClosed, InBody, InPart, ReachesPast}
 use Rattle.loop_data.specs.Shape.{IsOneBack, IsOneExit, IsSide, LeavesBy}
@@ -18,7 +18,7 @@ use Rattle.loop_shapes.specs.Gains.{IsOnly}
 use Rattle.loop_shapes.specs.LoopBody.{LeadsIn, LeadsOut, IsLeftFrom, IsLeftOnlyFrom}
 use Rattle.loop_shapes.specs.Net.{AreAt, HasPart, IsAmong, IsPart}
 use Rattle.loop_shapes.specs.Numbers.{AreNodes}
-use Rattle.loop_shapes.specs.Places.{AreFlags, count_of, at}
+use Rattle.loop_shapes.specs.Places.{count_of, at}
 use Rattle.loop_shapes.specs.Sets.{AreDifferent}
 use Rattle.loop_shapes.proofs.Cutting.{node_at}
 use Rattle.loop_shapes.proofs.Parts.{HasPlace, place_of_source, place_of_word, contains_map}

@@ -1,22 +1,19 @@
 -- The places from which listed edges lead.
-use Rattle.std.proofs.Common.{◌≡◌, ◌≢◌, ℕ, ◌+◌, ◌<◌, ◌≤◌, ◌⊎◌, ◌↔◌, inl, inr, List, [], ◌∷◌, length, get_or, set, take, refl, ap, sym, ◌∙◌, subst, arith}
+use Rattle.std.proofs.Common.{◌≡◌, ℕ, ◌<◌, ◌≤◌, ◌⊎◌, ◌↔◌, inl, inr, List, [], length, get_or, take, refl, ap, sym, ◌∙◌, subst, arith}
 use Rattle.std.specs.Bool.{⊤}
 use Rattle.std.specs.List.{Contains}
-use Rattle.std.proofs.lemmas.Bool.{cases_eq, cases_lt}
-use Rattle.std.proofs.lemmas.List.{get_or-set_same, get_or-set_other, length-set, take_all}
+use Rattle.std.proofs.lemmas.Bool.{cases_lt}
 use Rattle.loop_data.specs.declared.graph.Graph.{Graph}
 use Rattle.loop_data.specs.Paths.{addresses, IsInOrder, Leads}
 use Rattle.loop_shapes.specs.Places.{HasPredecessors, count_of, at}
-use Rattle.loop_data.specs.Sets.{IsListOf}
-use Rattle.loop_data.specs.Bodies.{IsHeader, InBody}
+use Rattle.loop_data.specs.Bodies.{IsHeader}
 use Rattle.loop_shapes.specs.Numbers.{AreNumbers}
 use Rattle.loop_shapes.specs.Gains.{Gained, HasAll}
 use Rattle.loop_shapes.specs.Lines.{IsRowOf, AreShared}
 use Rattle.loop_data.specs.Listed.{IsListed}
 use Rattle.loop_data.proofs.Ways.{stop, step}
-use Rattle.loop_data.proofs.Lists.{rises, from_in}
-use Rattle.loop_shapes.proofs.Rows.{none_in, alone, same_place, contains_more}
-use Rattle.loop_shapes.proofs.Parts.{place_of_word, word_at, row_within}
+use Rattle.loop_data.proofs.Lists.{rises}
+use Rattle.loop_shapes.proofs.Rows.{none_in, same_place}
 use Rattle.loop_shapes.proofs.Gains.{Among, gained_all, all_from_nothing}
 use Rattle.loop_data.specs.Flows.{row_at}
 

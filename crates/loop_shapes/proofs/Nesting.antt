@@ -1,5 +1,5 @@
 -- How the bodies of loops lie to each other.
-use Rattle.std.proofs.Common.{◌≡◌, ◌≢◌, ℕ, ◌⊎◌, inl, inr, refl, sym, ◌∙◌, subst}
+use Rattle.std.proofs.Common.{◌≡◌, ◌≢◌, ℕ, ◌⊎◌, inl, inr, sym, subst}
 use Rattle.std.specs.Bool.{⊤}
 use Rattle.std.specs.List.{Contains}
 use Rattle.std.proofs.lemmas.Bool.{cases_eq}
@@ -8,7 +8,6 @@ use Rattle.loop_data.specs.Paths.{Leads, IsWord, Reaches}
 use Rattle.loop_data.specs.Bodies.{ReachesPast, InPart, IsClosed, InBody}
 use Rattle.loop_data.specs.Starts.{FromStart, AreFromStarts}
 use Rattle.loop_data.proofs.Ways.{stop, step, backward, forward, further, wider, starts_in, ends_in}
-use Rattle.loop_shapes.proofs.Programs.{word_of_source}
 
 -- from h a step, and then a way that does not pass h again
 record Onward (R : ℕ → ℕ → Type 0) (P : ℕ → Type 0) (h u : ℕ) : Type 0 where

@@ -1,17 +1,15 @@
 -- Loops in and round others.
 use Rattle.std.proofs.Common.{◌≡◌, ◌≢◌, ℕ, ◌+◌, ◌<◌, ◌≤◌, ◌⊎◌, ◌↔◌, inl, inr, Bool, true, false, List, [], ◌∷◌, ◌++◌, length, get_or, take, ap, sym, ◌∙◌, subst, arith}
 use Rattle.std.specs.List.{Contains}
-use Rattle.std.proofs.lemmas.Bool.{cases_lt, cases_eq}
+use Rattle.std.proofs.lemmas.Bool.{cases_lt}
 use Rattle.std.proofs.lemmas.List.{get_or_default, get_or_append_left, get_or_push, length_push}
 use Rattle.std.proofs.lemmas.List.Elements.{Contains-get_or}
 use Rattle.loop_data.specs.declared.graph.Graph.{Graph}
-use Rattle.loop_data.specs.Paths.{IsWord}
-use Rattle.loop_shapes.specs.Places.{AreFlags, count_of, at}
 use Rattle.loop_data.specs.Sets.{IsListOf, HasAtMost}
 use Rattle.loop_data.specs.Bodies.{InBody}
 use Rattle.loop_shapes.specs.Gains.{Gained}
-use Rattle.loop_data.specs.Shape.{InNest, IsShaped, HasShape}
-use Rattle.loop_data.specs.Early.{IsMisshapen, IsRound, IsSmallNest}
+use Rattle.loop_data.specs.Shape.{InNest}
+use Rattle.loop_data.specs.Early.{IsRound, IsSmallNest}
 use Rattle.loop_shapes.proofs.Gains.{Among}
 use Rattle.loop_shapes.proofs.Choices.{chosen}
 use Rattle.loop_shapes.proofs.Leasts.{most_by}

@@ -4,10 +4,9 @@ use Rattle.std.proofs.lemmas.Bool.{cases_eq, cases_lt, false≢true}
 use Rattle.std.proofs.lemmas.List.{get_or_append_left, get_or_push, length_push, get_or-replicate, length-replicate}
 use Rattle.loop_data.specs.declared.graph.Graph.{Graph}
 use Rattle.loop_data.specs.Bodies.{InBody, IsHeader}
-use Rattle.loop_data.specs.Early.{IsBodyWord, IsPlain, Lacks}
 use Rattle.loop_data.specs.Paths.{Reaches}
 use Rattle.loop_data.specs.Sets.{HasAtMost}
-use Rattle.loop_data.specs.Shape.{HasShape, IsForward, IsInner, IsOnCycle, IsShaped}
+use Rattle.loop_data.specs.Shape.{HasShape, IsForward, IsShaped}
 use Rattle.loop_data.specs.Starts.{AreFromStarts}
 use Rattle.loop_data.proofs.Ways.{stop, step, backward, ends_in}
 use Rattle.loop_shapes.specs.Outer.{AreKnown, IsAcyclic, IsClean, IsSound, IsUnder, IsUnsound}

@@ -1,5 +1,5 @@
 -- Searches over places, and what they say of addresses.
-use Rattle.std.proofs.Common.{◌≡◌, ◌≢◌, ℕ, ◌<◌, ◌≤◌, ◌⊎◌, inl, inr, Bool, true, false, ◌↔◌, MatchBool, List, [], ◌∷◌, length, get_or, map, refl, ap, sym, ◌∙◌, subst, arith}
+use Rattle.std.proofs.Common.{◌≡◌, ◌≢◌, ℕ, ◌<◌, ◌≤◌, ◌⊎◌, inl, inr, Bool, true, false, ◌↔◌, List, [], ◌∷◌, length, get_or, map, refl, ap, sym, ◌∙◌, subst, arith}
 use Rattle.std.specs.List.{Contains}
 use Rattle.std.proofs.lemmas.List.{length-map, get_or-map, get_or_default, get_or_past}
 use Rattle.std.proofs.lemmas.Bool.{cases_lt, false≢true}
@@ -12,7 +12,7 @@ use Rattle.loop_shapes.specs.Sets.{AreDifferent, HasOver}
 use Rattle.loop_shapes.specs.Places.{HasPredecessors, AreFlags, count_of, at}
 use Rattle.loop_data.specs.Bodies.{ReachesPast, InPart, IsClosed, IsHeader, InBody}
 use Rattle.loop_shapes.specs.Search.{RowLeads, InPlaces, HasSearched}
-use Rattle.loop_shapes.specs.Net.{IsAmong, AreFewAt, HasFew, IsPart, HasPart, HasBody, IsOnlyEntry}
+use Rattle.loop_shapes.specs.Net.{IsAmong, HasFew, IsPart, HasPart, HasBody, IsOnlyEntry}
 use Rattle.loop_data.proofs.Ways.{stop, step, backward, ends_in}
 use Rattle.loop_data.proofs.Lists.{from_in, no_longer, apart_from_places}
 use Rattle.loop_shapes.proofs.Rows.{alone, same_place, address_at, none_in}

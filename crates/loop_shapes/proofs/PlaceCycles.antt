@@ -1,18 +1,17 @@
 -- The cycles of a loop, by places and by addresses.
-use Rattle.std.proofs.Common.{◌≡◌, ℕ, ◌<◌, ◌≤◌, List, length, refl, sym, subst, arith}
+use Rattle.std.proofs.Common.{◌≡◌, ℕ, ◌≤◌, List, length, refl, sym, subst, arith}
 use Rattle.std.specs.List.{Contains}
 use Rattle.strong_components.specs.declared.graph.Successors.{Successors}
-use Rattle.strong_components.specs.Graph.{IsEdge}
 use Rattle.loop_data.specs.declared.graph.Graph.{Graph}
-use Rattle.loop_data.specs.Bodies.{IsClosed, InBody}
-use Rattle.loop_data.specs.Paths.{Leads, Reaches}
+use Rattle.loop_data.specs.Bodies.{InBody}
+use Rattle.loop_data.specs.Paths.{Reaches}
 use Rattle.loop_data.specs.Shape.{IsForward, IsOnCycle}
 use Rattle.loop_data.proofs.Lists.{no_longer, apart_from_places}
 use Rattle.loop_data.proofs.Ways.{stop, step, backward}
 use Rattle.loop_shapes.specs.Cycles.{AreGone}
-use Rattle.loop_shapes.specs.Net.{AreAt, IsAmong}
-use Rattle.loop_shapes.specs.Open.{AreOpen, IsOpenStep}
-use Rattle.loop_shapes.specs.Places.{at, count_of}
+use Rattle.loop_shapes.specs.Net.{AreAt}
+use Rattle.loop_shapes.specs.Open.{AreOpen}
+use Rattle.loop_shapes.specs.Places.{at}
 use Rattle.loop_shapes.specs.Sets.{AreDifferent}
 use Rattle.loop_shapes.proofs.Gone.{IsInnerEdge, TakingOut, none_left, all_gone, nothing_left, all_tried, no_more_gone}
 

@@ -5,7 +5,7 @@ use Rattle.loop_data.specs.declared.graph.Graph.{Graph}
 use Rattle.loop_data.specs.Sets.{IsListOf}
 use Rattle.loop_shapes.specs.Difference.{InDifference}
 use Rattle.loop_data.specs.Shape.{IsInner, InNest, IsOneBack, IsOneExit, IsSide, IsExitBranch, HasOwnShape, IsShaped}
-use Rattle.loop_shapes.specs.LoopBody.{IsLeftFrom, IsLeftOnlyFrom}
+use Rattle.loop_shapes.specs.LoopBody.{IsLeftOnlyFrom}
 use Rattle.loop_data.proofs.Lists.{from_in}
 use Rattle.loop_shapes.proofs.Rows.{alone}
 

@@ -1,9 +1,9 @@
 -- Flags of words that are reached from start words.
-use Rattle.std.proofs.Common.{◌≡◌, ℕ, ◌<◌, ◌⊎◌, inl, inr, Bool, true, false, List, length, get_or, refl, sym, ◌∙◌, subst, arith}
+use Rattle.std.proofs.Common.{◌≡◌, ℕ, ◌<◌, ◌⊎◌, inl, inr, Bool, true, false, List, length, get_or, sym, ◌∙◌, subst, arith}
 use Rattle.std.specs.Bool.{⊤}
 use Rattle.std.specs.List.{Contains}
 use Rattle.loop_data.specs.declared.graph.Graph.{Graph}
-use Rattle.loop_data.specs.Paths.{addresses, Leads, IsWord}
+use Rattle.loop_data.specs.Paths.{addresses, Leads}
 use Rattle.loop_shapes.specs.Places.{AreFlags, Marked, count_of, at}
 use Rattle.loop_data.specs.Starts.{FromStart, AreFromStarts}
 use Rattle.loop_shapes.specs.StartFlags.{AreFlagsFromStarts}

@@ -1,5 +1,5 @@
 -- Where a step leads, as a test tells.
-use Rattle.std.proofs.Common.{◌≡◌, ℕ, ◌<◌, ◌⊎◌, inl, inr, ◌↔◌, Bool, true, Option, Some, List, length, get_or, sym, subst}
+use Rattle.std.proofs.Common.{◌≡◌, ℕ, ◌<◌, inl, inr, ◌↔◌, Bool, true, Option, Some, List, length, get_or, sym, subst}
 use Rattle.std.specs.List.{Contains}
 use Rattle.loop_shapes.specs.LoopBody.{LeadsIn, LeadsOn, LeadsOnFrom}
 use Rattle.strong_components.specs.declared.graph.Successors.{Successors}

@@ -1,16 +1,15 @@
 -- Loops that have not the shape.
-use Rattle.std.proofs.Common.{◌≡◌, ◌≢◌, ℕ, ◌≤◌, ◌⊎◌, ◌↔◌, inl, inr, Bool, true, false, List, length, refl, sym, ◌∙◌, subst}
-use Rattle.std.specs.List.{Contains}
+use Rattle.std.proofs.Common.{◌≡◌, ◌≢◌, ℕ, ◌≤◌, ◌⊎◌, ◌↔◌, inl, inr, Bool, true, false, List, length, refl, sym, subst}
 use Rattle.std.proofs.lemmas.Bool.{cases_eq, false≢true}
 use Rattle.loop_data.specs.declared.graph.Graph.{Graph}
 use Rattle.loop_data.specs.Bodies.{IsHeader, InPart, InBody}
 use Rattle.loop_data.specs.Early.{IsMisshapen}
 use Rattle.loop_shapes.specs.Outer.{IsUnsound}
-use Rattle.loop_shapes.specs.Marks.{HasUnshaped, ArePlacesShaped}
+use Rattle.loop_shapes.specs.Marks.{ArePlacesShaped}
 use Rattle.loop_shapes.specs.Net.{AreAt, HasBody}
 use Rattle.loop_shapes.specs.Places.{at}
 use Rattle.loop_data.specs.Sets.{HasAtMost}
-use Rattle.loop_data.specs.Shape.{InNest, IsShaped, HasShape}
+use Rattle.loop_data.specs.Shape.{IsShaped, HasShape}
 
 -- the body of a loop that has the shape is small
 pub shaped_small : (G : Graph) (h : ℕ) → IsShaped G h → HasAtMost 256 (InBody G h)

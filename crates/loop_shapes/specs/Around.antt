@@ -1,5 +1,5 @@
 -- The innermost and the outermost loop round each word.
-use Rattle.std.specs.Prelude.{ℕ, ◌≡◌, ◌+◌, ◌<◌, ◌⊎◌, Bool, true, false, MatchBool, Option, Some, None, List, length}
+use Rattle.std.specs.Prelude.{ℕ, ◌≡◌, ◌<◌, ◌⊎◌, Bool, true, false, MatchBool, Option, Some, None, List, length}
 use Rattle.std.specs.Prelude.{slice_index_or}
 use Rattle.std.specs.List.{Contains}
 use Rattle.loop_data.specs.declared.graph.Graph.{Graph}

@@ -1,6 +1,6 @@
 -- What is known of each word of a program, by places.
-use Rattle.std.specs.Prelude.{ℕ, ◌≡◌, ◌<◌, Bool, true, false, MatchBool, MatchOption, Option, Some, None, min}
-use Rattle.std.specs.Prelude.{if◌then◌else◌, List, slice_index_or}
+use Rattle.std.specs.Prelude.{ℕ, ◌≡◌, Bool, MatchBool, MatchOption, Option, Some, None, min}
+use Rattle.std.specs.Prelude.{List}
 use Rattle.std.specs.List.{Contains}
 use Rattle.loop_data.specs.declared.graph.Graph.{Graph}
 use Rattle.loop_shapes.specs.declared.kind.Kind.TheVariants.{Calls, Asks, JumpsAnywhere, IsNothing}

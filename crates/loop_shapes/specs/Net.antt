@@ -8,7 +8,7 @@ use Rattle.loop_shapes.specs.Places.{HasPredecessors, AreFlags, count_of, at}
 use Rattle.loop_data.specs.Bodies.{InPart, IsClosed, InBody}
 use Rattle.loop_data.specs.Sets.{HasAtMost}
 use Rattle.loop_data.specs.Starts.{AreFromStarts}
-use Rattle.loop_data.specs.Flows.{row_at, rows}
+use Rattle.loop_data.specs.Flows.{rows}
 
 -- the graph of the net
 abbrev pub graph_of : Net → Graph
@@ -33,11 +33,11 @@ pub record AreAt (G : Graph) (P : ℕ → Type 0) (found : List ℕ) : Type 0 wh
   pub each : (i : ℕ) → Contains found i → (i < count_of G) × P (at G i)
   pub every : (x : ℕ) → P x → IsAmong G found x
 
--- those places of a set of at most 256 words
+-- those places, at most 256
 abbrev pub AreFewAt : Graph → (ℕ → Type 0) → List ℕ → Type 0
 AreFewAt G P found = (length found ≤ 256) × AreAt G P found
 
--- those places, or that the set has more words
+-- those places, or that the set has more members
 abbrev pub HasFew : Bool → Graph → (ℕ → Type 0) → List ℕ → Type 0
 HasFew small G P found = MatchBool small (AreFewAt G P found) (¬ HasAtMost 256 P)
 

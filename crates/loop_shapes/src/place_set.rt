@@ -20,7 +20,10 @@ pub struct PlaceSet {
 
 impl PlaceSet {
     /// A set without places and without slots, which are made at the first use.
-    pub fn new(alloc: Global) -> PlaceSet {
+    pub fn new(alloc: Global) -> PlaceSet
+        ensures found { result.found.items ≡ [] }
+        ensures slots { result.slots.items ≡ [] }
+    {
         PlaceSet {
             alloc,
             found: Vec::new(alloc),

@@ -1,11 +1,10 @@
-use Rattle.std.proofs.Common.{◌≡◌, ◌<◌, ◌+◌, ℕ, take, List, Option, Some, None, get_or, length, set, ap, sym, ◌∙◌, subst, refl, arith}
+use Rattle.std.proofs.Common.{◌≡◌, ◌<◌, ◌+◌, ℕ, take, Option, None, get_or, length, ap, sym, ◌∙◌, subst, arith}
 use Rattle.std.specs.declared.vec.Vec.{Vec}
 use Rattle.std.specs.declared.alloc.Global.{Global}
-use Rattle.std.proofs.lemmas.List.{get_or_default, take_all}
-use Rattle.std.proofs.lemmas.List.Elements.{Contains-get_or}
+use Rattle.std.proofs.lemmas.List.{get_or_default}
 use Rattle.loop_shapes.specs.Around.{GivesWay, IsSettled, entry_at}
 use Rattle.loop_shapes.proofs.Answered.{passed, failed}
-use Rattle.loop_shapes.proofs.Settling.{settled_taken, settled_kept, settled_none, not_before}
+use Rattle.loop_shapes.proofs.Settling.{settled_taken, settled_kept}
 use Rattle.loop_shapes.proofs.around.settle.Goals as goal
 use Rattle.loop_shapes.proofs.around.settle.Goals.{then-gives_way, else-gives_way}
 

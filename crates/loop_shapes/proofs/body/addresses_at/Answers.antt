@@ -1,7 +1,6 @@
-use Rattle.std.proofs.Common.{ℕ, List, [], ◌++◌, length, map, ap, ◌∙◌, arith}
+use Rattle.std.proofs.Common.{ℕ, List, ◌++◌, length, map, ap, ◌∙◌, arith}
 use Rattle.std.specs.List.{slice_index}
 use Rattle.loop_shapes.specs.Net.{graph_of}
-use Rattle.loop_shapes.specs.Places.{at}
 use Rattle.loop_shapes.proofs.AddressLists.{among_list}
 use Rattle.loop_shapes.proofs.body.addresses_at.Goals as goal
 

@@ -1,11 +1,8 @@
-use Rattle.std.proofs.Common.{◌≡◌, ◌<◌, ◌⊎◌, ℕ, length, inl, inr, List, [], ◌∷◌, ◌++◌, Some, Option, true, false, refl, sym, subst, ap, ◌∙◌, arith}
+use Rattle.std.proofs.Common.{◌≡◌, ◌⊎◌, ℕ, length, inl, inr, List, [], ◌∷◌, ◌++◌, true, false, sym, subst, ap, arith}
 use Rattle.std.specs.List.{Contains}
-use Rattle.std.proofs.lemmas.List.{get_or_past}
-use Rattle.std.proofs.lemmas.Bool.{cases_lt}
 use Rattle.std.proofs.lemmas.List.Elements.{Contains-push_cases}
-use Rattle.loop_shapes.specs.Around.{IsSettled, entry_at, AreAroundSoFar}
+use Rattle.loop_shapes.specs.Around.{IsSettled}
 use Rattle.loop_shapes.specs.Net.{graph_of}
-use Rattle.loop_shapes.specs.Places.{count_of}
 use Rattle.loop_shapes.proofs.Answered.{passed, failed}
 use Rattle.loop_shapes.proofs.ClosedRows.{tried_open, tried_closed}
 use Rattle.loop_shapes.proofs.Rounds.{rounds_more, entries_within}

@@ -1,8 +1,5 @@
-use Rattle.std.proofs.Common.{◌≡◌, ◌<◌, ℕ, length, inl, inr, refl, arith}
+use Rattle.std.proofs.Common.{inl, inr, refl, arith}
 use Rattle.std.proofs.lemmas.Bool.{false≢true}
-use Rattle.strong_components.specs.Graph.{LeadsTo}
-use Rattle.loop_shapes.specs.LoopBody.{body_graph}
-use Rattle.loop_shapes.specs.Places.{count_of}
 use Rattle.loop_shapes.proofs.Cutting.{node_at}
 use Rattle.loop_shapes.proofs.Targets.{on_first, on_second, on_back}
 use Rattle.loop_shapes.proofs.cycles.leads_on.Goals as goal

@@ -1,4 +1,4 @@
-use Rattle.std.proofs.Common.{ℕ, take}
+use Rattle.std.proofs.Common.{take}
 use Rattle.std.specs.List.{Contains}
 use Rattle.loop_shapes.specs.Cycles.{HasGone}
 use Rattle.loop_shapes.specs.LoopBody.{body_graph}

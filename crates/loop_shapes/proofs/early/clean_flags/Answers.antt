@@ -1,4 +1,4 @@
-use Rattle.std.proofs.Common.{◌≡◌, ℕ, length, ap, arith}
+use Rattle.std.proofs.Common.{◌≡◌, length, ap, arith}
 use Rattle.loop_shapes.specs.Outer.{IsClean}
 use Rattle.loop_shapes.specs.Places.{count_of}
 use Rattle.loop_shapes.specs.Program.{program_graph}

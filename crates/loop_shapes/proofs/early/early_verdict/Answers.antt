@@ -1,7 +1,5 @@
-use Rattle.std.proofs.Common.{ℕ}
 use Rattle.loop_shapes.specs.declared.kind.Kind.TheVariants.{Calls, Asks, JumpsAnywhere, IsNothing}
 use Rattle.loop_data.specs.Bodies.{InBody}
-use Rattle.loop_data.specs.Early.{IsPlain}
 use Rattle.loop_shapes.specs.Net.{graph_of}
 use Rattle.loop_shapes.proofs.Flagged.{short_by, first_does, lacks, first_unsound, none_unsound}
 use Rattle.loop_shapes.proofs.early.early_verdict.Goals as goal

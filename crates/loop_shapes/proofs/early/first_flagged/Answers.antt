@@ -1,4 +1,4 @@
-use Rattle.std.proofs.Common.{ℕ, sym, arith}
+use Rattle.std.proofs.Common.{arith}
 use Rattle.loop_shapes.proofs.early.first_flagged.Goals as goal
 
 pub least_flagged-requires : goal.least_flagged-requires

@@ -1,4 +1,4 @@
-use Rattle.std.proofs.Common.{◌≡◌, ◌≢◌, ◌<◌, ◌≤◌, ◌+◌, ℕ, length, arith}
+use Rattle.std.proofs.Common.{arith}
 use Rattle.loop_shapes.specs.LoopBody.{body_graph, header_of}
 use Rattle.loop_shapes.proofs.Leaving.{no_exit, one_exit, two_exits}
 use Rattle.loop_shapes.proofs.Searches.{apart_from_indexed}

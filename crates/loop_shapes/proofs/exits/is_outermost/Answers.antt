@@ -1,4 +1,4 @@
-use Rattle.std.proofs.Common.{◌≡◌, ℕ, Some, ap, ◌∙◌}
+use Rattle.std.proofs.Common.{Some, ap}
 use Rattle.loop_data.specs.Paths.{addresses}
 use Rattle.loop_shapes.specs.LoopBody.{body_graph, header_of}
 use Rattle.loop_shapes.specs.Places.{at, count_of}

@@ -1,6 +1,5 @@
-use Rattle.std.proofs.Common.{◌-◌, ◌≤◌, ◌<◌, ℕ, length, get_or}
-use Rattle.loop_shapes.specs.LoopBody.{IsLeftFrom, body_graph, header_of}
-use Rattle.loop_shapes.specs.Places.{at}
+use Rattle.std.proofs.Common.{◌-◌, length}
+use Rattle.loop_shapes.specs.LoopBody.{body_graph, header_of}
 use Rattle.loop_shapes.proofs.Leaving.{NoneLeft}
 use Rattle.loop_shapes.proofs.exits.next_exit.Given as goal
 

@@ -1,4 +1,4 @@
-use Rattle.std.proofs.Common.{◌≡◌, ℕ, List, length, sym, ◌∙◌, subst, arith}
+use Rattle.std.proofs.Common.{◌≡◌, ℕ, List, length, sym, subst, arith}
 use Rattle.std.specs.List.{Contains}
 use Rattle.loop_data.specs.Bodies.{IsHeader, InBody}
 use Rattle.loop_data.specs.Sets.{IsListOf}

@@ -1,9 +1,6 @@
-use Rattle.std.proofs.Common.{◌≡◌, ℕ, Some, None, List, inl, refl, ap, sym, ◌∙◌, subst}
-use Rattle.std.specs.List.{Contains}
+use Rattle.std.proofs.Common.{ℕ, inl, refl, sym, subst}
 use Rattle.std.specs.declared.vec.Vec.{Vec}
 use Rattle.std.specs.declared.alloc.Global.{Global}
-use Rattle.loop_data.specs.declared.shape.Level.{Level}
-use Rattle.loop_data.specs.declared.verdict.Verdict.TheVariants.{Limit}
 use Rattle.loop_data.specs.Bodies.{IsHeader, InBody}
 use Rattle.loop_shapes.specs.Gains.{HasAll}
 use Rattle.loop_data.specs.Loops.{AreLevels}

@@ -1,5 +1,4 @@
-use Rattle.std.proofs.Common.{◌≡◌, ◌≤◌, ℕ, List, get_or, refl, sym, subst}
-use Rattle.std.proofs.lemmas.Bool.{false≢true}
+use Rattle.std.proofs.Common.{refl, sym, subst}
 use Rattle.loop_shapes.specs.Gains.{Gained}
 use Rattle.loop_shapes.specs.Program.{program_graph}
 use Rattle.loop_shapes.proofs.Answered.{failed}

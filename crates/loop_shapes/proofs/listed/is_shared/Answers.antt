@@ -1,6 +1,5 @@
-use Rattle.std.proofs.Common.{◌≡◌, ℕ, Option, Some, None, false, ap, sym, ◌∙◌, subst}
+use Rattle.std.proofs.Common.{ℕ, Some, None, sym, subst}
 use Rattle.std.proofs.lemmas.Bool.{false≢true}
-use Rattle.loop_shapes.specs.Around.{entry_at}
 use Rattle.loop_data.specs.Bodies.{InBody}
 use Rattle.loop_shapes.specs.Places.{at}
 use Rattle.loop_shapes.specs.Program.{program_graph}

@@ -1,5 +1,4 @@
 use Rattle.loop_shapes.specs.Below.{AreLoopsBelow}
-use Rattle.loop_shapes.specs.Places.{count_of}
 use Rattle.loop_shapes.specs.Program.{program_graph}
 use Rattle.loop_shapes.proofs.listing.shapes_of.Given as goal
 

@@ -1,7 +1,6 @@
-use Rattle.std.proofs.Common.{◌≡◌, ◌⊎◌, ℕ, inl, inr, Bool, true, false, get_or, refl, sym, ◌∙◌, below_more}
+use Rattle.std.proofs.Common.{◌≡◌, ◌⊎◌, ℕ, inl, inr, true, false, get_or, refl, sym, ◌∙◌, below_more}
 use Rattle.std.proofs.lemmas.Bool.{false≢true, cases_Bool}
 use Rattle.std.proofs.lemmas.List.Elements.{Contains-get_or}
-use Rattle.std.specs.List.{Contains}
 use Rattle.loop_data.specs.Bodies.{IsHeader}
 use Rattle.loop_shapes.specs.Places.{at}
 use Rattle.loop_shapes.specs.Program.{program_graph}

@@ -1,4 +1,3 @@
-use Rattle.std.proofs.Common.{refl}
 use Rattle.std.proofs.lemmas.List.Elements.{Contains-get_or}
 use Rattle.loop_shapes.proofs.Flagged.{least_none, least_more, least_all}
 use Rattle.loop_shapes.proofs.marks.least_flagged.Goals as goal

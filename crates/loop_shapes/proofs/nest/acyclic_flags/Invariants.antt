@@ -1,5 +1,4 @@
 use Rattle.loop_shapes.specs.Outer.{IsAcyclic}
-use Rattle.loop_shapes.specs.Places.{count_of}
 use Rattle.loop_shapes.specs.Program.{program_graph}
 use Rattle.loop_shapes.proofs.OuterLoops.{AreKnownBelow}
 use Rattle.loop_shapes.proofs.nest.acyclic_flags.Given as goal

@@ -1,15 +1,8 @@
-use Rattle.std.proofs.Common.{◌≡◌, ℕ, List, refl, sym, subst}
-use Rattle.std.specs.List.{Contains}
 use Rattle.std.proofs.lemmas.Bool.{false≢true}
-use Rattle.loop_data.specs.Bodies.{InBody}
-use Rattle.loop_data.specs.Shape.{IsShaped}
-use Rattle.loop_shapes.specs.LoopBody.{HasOwnShapeAt}
-use Rattle.loop_shapes.specs.Net.{AreAt}
 use Rattle.loop_shapes.specs.Places.{at}
 use Rattle.loop_shapes.specs.Program.{program_graph}
-use Rattle.loop_shapes.proofs.Answered.{at_some, at_none}
 use Rattle.loop_shapes.proofs.OuterLoops.{under_acyclic}
-use Rattle.loop_shapes.proofs.Unsound.{shaped_small, body_there, body_large}
+use Rattle.loop_shapes.proofs.Unsound.{shaped_small, body_large}
 use Rattle.loop_shapes.proofs.nest.is_shaped.Goals as goal
 
 pub returns-then-not-is_header_at : goal.returns-then-not-is_header_at

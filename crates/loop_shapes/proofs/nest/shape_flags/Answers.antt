@@ -1,5 +1,4 @@
-use Rattle.std.proofs.Common.{◌≡◌, ◌<◌, ◌↔◌, ℕ, length, ap, sym, ◌∙◌, subst, arith}
-use Rattle.std.specs.Bool.{IsTrue}
+use Rattle.std.proofs.Common.{◌≡◌, ◌<◌, ℕ, length, ap, sym, ◌∙◌, subst, arith}
 use Rattle.loop_shapes.specs.Places.{at, count_of}
 use Rattle.loop_shapes.specs.Program.{program_graph}
 use Rattle.loop_data.specs.Shape.{IsShaped}

@@ -1,5 +1,5 @@
 use Rattle.std.proofs.Common.{◌≡◌, ◌↔◌, ℕ, ◌<◌, true, false, length, get_or}
-use Rattle.loop_shapes.specs.Places.{at, count_of}
+use Rattle.loop_shapes.specs.Places.{at}
 use Rattle.loop_shapes.specs.Program.{program_graph}
 use Rattle.loop_data.specs.Shape.{IsShaped}
 use Rattle.loop_shapes.proofs.nest.shape_flags.Given as goal

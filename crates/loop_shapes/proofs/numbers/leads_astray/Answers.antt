@@ -1,5 +1,4 @@
-use Rattle.std.proofs.Common.{◌≡◌, ◌↔◌, ℕ, List, get_or, refl, sym, ◌∙◌, subst, below_more, arith}
-use Rattle.std.specs.List.{Contains}
+use Rattle.std.proofs.Common.{get_or, refl, ◌∙◌, subst, below_more, arith}
 use Rattle.std.proofs.lemmas.Bool.{false≢true}
 use Rattle.std.proofs.lemmas.List.{get_or_default}
 use Rattle.std.proofs.lemmas.List.Elements.{Contains-get_or}

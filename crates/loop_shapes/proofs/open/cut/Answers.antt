@@ -1,4 +1,4 @@
-use Rattle.std.proofs.Common.{◌≡◌, ◌≢◌, ◌⊎◌, ℕ, inl, inr, Option, Some}
+use Rattle.std.proofs.Common.{◌≡◌, ◌≢◌, ◌⊎◌, inl, inr, Some}
 use Rattle.strong_components.specs.Graph.{LeadsTo}
 use Rattle.loop_shapes.proofs.open.cut.Goals as goal
 

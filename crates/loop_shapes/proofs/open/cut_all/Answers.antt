@@ -1,4 +1,4 @@
-use Rattle.std.proofs.Common.{◌<◌, ℕ, get_or, length, refl, arith}
+use Rattle.std.proofs.Common.{◌<◌, get_or, length, refl, arith}
 use Rattle.std.proofs.lemmas.List.Elements.{Contains-get_or}
 use Rattle.loop_shapes.proofs.Cutting.{cut_none, cut_more, cut_whole}
 use Rattle.loop_shapes.proofs.open.cut_all.Goals as goal

@@ -1,4 +1,4 @@
-use Rattle.std.proofs.Common.{◌≡◌, ℕ, Some, ap, subst}
+use Rattle.std.proofs.Common.{ℕ, Some, subst}
 use Rattle.loop_data.specs.Bodies.{IsHeader}
 use Rattle.loop_shapes.specs.Places.{at, count_of}
 use Rattle.loop_shapes.specs.Program.{program_graph}

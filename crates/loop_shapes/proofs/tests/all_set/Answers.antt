@@ -1,4 +1,4 @@
-use Rattle.std.proofs.Common.{◌<◌, ℕ, arith}
+use Rattle.std.proofs.Common.{arith}
 use Rattle.loop_shapes.proofs.tests.all_set.Goals as goal
 
 pub returns : goal.returns
