@@ -1,2 +1,3 @@
 pub mod AccessLists
 pub mod Listed
+pub mod Values

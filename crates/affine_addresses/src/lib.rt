@@ -2,6 +2,7 @@
 #![tactic(auto)]
 
 mod addresses;
+pub mod laws;
 mod list;
 
 pub use list::{Irregular, accesses};

@@ -42,7 +42,7 @@ Right entry t v o = (f : LinearForm) → o ≡ Some f → Alike (pos v) (exact f
 abbrev pub IsMet : (ℕ → ℤ) → (ℕ → ℕ) → Option LinearForm → Type 0
 IsMet entry t o = (f : LinearForm) → o ≡ Some f → IsOf32Bits (exact f entry t)
 
-right_sum : (entry : ℕ → ℤ) (t : ℕ → ℕ) (v w : ℕ) (o p : Option LinearForm) → Right entry t v o → Right entry t w p → Right entry t (v + w) (form_sum o p)
+pub right_sum : (entry : ℕ → ℤ) (t : ℕ → ℕ) (v w : ℕ) (o p : Option LinearForm) → Right entry t v o → Right entry t w p → Right entry t (v + w) (form_sum o p)
 right_sum entry t v w (Some f) (Some g) a b h k =
     let e : sum_of f g ≡ h = cc in
     alike_trans _ _ _ (alike_from _ _ (omega (arith, ints))) (alike_trans _ _ _ (alike_add _ _ _ _ (a f refl) (b g refl)) (alike_from _ _ (sym (exact-sum f g entry t) ∙ ap (λ h. exact h entry t) e)))
@@ -101,11 +101,11 @@ right_short entry t n (Some f) met a = go (is_pure f) refl met
         subst (λ h. Alike (pos (extended32 (low32 n))) (exact h entry t)) q (extended_low n (exact f entry t) (a f refl) (subst (λ h. IsOf32Bits (exact h entry t)) (sym q) (met g k)))
 right_short entry t n None met a = λ f k. absurd (cc)
 
-right_limited : (entry : ℕ → ℤ) (t : ℕ → ℕ) (n : ℕ) (o : Option LinearForm) → Right entry t n o → Right entry t (n % 2 ^ 64) (form_limited o)
+pub right_limited : (entry : ℕ → ℤ) (t : ℕ → ℕ) (n : ℕ) (o : Option LinearForm) → Right entry t n o → Right entry t (n % 2 ^ 64) (form_limited o)
 right_limited entry t n (Some f) a g k = let q = limited_is f g k in alike_trans _ _ _ (alike_mod n) (subst (λ h. Alike (pos n) (exact h entry t)) q (a f refl))
 right_limited entry t n None a g k = absurd (cc)
 
-right_pure : (entry : ℕ → ℤ) (t : ℕ → ℕ) (z : ℤ) → IsSigned 32 z → Right entry t (cast_unsigned w64 z) (Some (pure z))
+pub right_pure : (entry : ℕ → ℤ) (t : ℕ → ℕ) (z : ℤ) → IsSigned 32 z → Right entry t (cast_unsigned w64 z) (Some (pure z))
 right_pure entry t z h f k =
     let e : f ≡ pure z = cc in
     alike_trans _ _ _ (alike_word z h) (alike_from _ _ (sym (ap (λ g. exact g entry t) e ∙ exact-pure z entry t)))

@@ -21,6 +21,7 @@ pub mod Innermost
 pub mod NestVisits
 pub mod Strides
 pub mod FormWords
+pub mod Operands
 pub mod FactWords
 pub mod FactWalks
 pub mod Effects

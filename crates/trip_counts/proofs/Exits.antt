@@ -1,6 +1,5 @@
 -- Where the branch of a loop leads at a visit: below the number of the trip into the loop, and at it out of it.
-use Rattle.std.proofs.Common.{◌≡◌, ◌≢◌, ℕ, zero, suc, ◌-◌, ◌%◌, ◌<◌, ◌⊎◌, inl, inr, List, [], ◌∷◌, Bool, true, false, not, Option, Some, None, refl, ap, sym, ◌∙◌, subst, arith, if◌then◌else◌, ◌==◌, nat_lt, pos, ℤ}
-use Rattle.std.proofs.lemmas.Bool.Decides.{nat_tests}
+use Rattle.std.proofs.Common.{◌≡◌, ◌≢◌, ℕ, zero, suc, ◌%◌, ◌<◌, ◌⊎◌, inl, inr, List, [], ◌∷◌, Bool, true, false, not, Option, Some, None, refl, ap, sym, ◌∙◌, subst, arith, if◌then◌else◌, ◌==◌, ℤ}
 use Rattle.rv64_decode.specs.Range.{AreWords, HasRegisters}
 use Rattle.rv64_decode.specs.Registers.{register}
 use Rattle.rv64_decode.specs.Row.{next_pc, plus_offset, onward, jump, stopped, taken}
@@ -10,7 +9,7 @@ use Rattle.rv64_decode.specs.declared.instr.BranchOp.{BranchOp}
 use Rattle.rv64_decode.specs.declared.outcome.Fault.TheVariants.{Target}
 use Rattle.rv64_decode.specs.declared.outcome.Next.TheVariants.{At}
 use Rattle.rv64_decode.proofs.Sound.{register_below}
-use Rattle.linear_forms.specs.Forms.{Alike, LinearForm, exact}
+use Rattle.linear_forms.specs.Forms.{LinearForm}
 use Rattle.loop_data.specs.declared.graph.Graph.{Graph}
 use Rattle.loop_data.specs.declared.shape.Level.{Level}
 use Rattle.loop_data.specs.declared.trips.Trip.{Trip}
@@ -19,10 +18,10 @@ use Rattle.loop_data.specs.LoopWords.{next_words, IsLoopWord, AreNest}
 use Rattle.loop_data.specs.Runs.{State, run, walk, goes_at}
 use Rattle.loop_data.specs.Turns.{turn}
 use Rattle.loop_data.specs.Passes.{pass, passes}
-use Rattle.loop_data.specs.Locations.{CellMap, first_cell, value_of, held, cell_at}
+use Rattle.loop_data.specs.Locations.{CellMap}
 use Rattle.loop_data.specs.LoopCode.{instr_among, code_of}
 use Rattle.loop_data.specs.FormRows.{form_read}
-use Rattle.loop_data.specs.Holds.{entry_of, times, HoldsAt}
+use Rattle.loop_data.specs.Holds.{entry_of, times}
 use Rattle.loop_data.specs.Executing.{AreProgramWords, Executes}
 use Rattle.loop_data.specs.Trips.{stay, is_signed, trip_read, trip_by}
 use Rattle.loop_data.proofs.Tests.{is_eq, yes_no}
@@ -30,7 +29,7 @@ use Rattle.loop_data.proofs.Lists.{to_in}
 use Rattle.loop_data.proofs.Steps.{is_leads}
 use Rattle.loop_data.proofs.Arounds.{time_at}
 use Rattle.loop_data.proofs.NestVisits.{AreGiven, are_given, found_instr, here, holds_word, sound, step_is}
-use Rattle.loop_data.proofs.FormWords.{Right, right_read}
+use Rattle.loop_data.proofs.Operands.{operand_right}
 use Rattle.trip_counts.specs.TripLaws.{Tells, IsAtExit, StaysBelow}
 use Rattle.trip_counts.proofs.Told.{Turns, trip_told}
 
@@ -125,16 +124,6 @@ leads_out l to pc regs false true e s q = go (to % 4 == 0)
     go true = e
     go false = refl
 leads_out l to pc regs false false e s q = absurd (cc)
-
--- a register that is read has the value of its form
-operand_right : (N : Nest) (C : CellMap) (at : ℕ → ℕ → Option LinearForm) (s : State) (m u r : ℕ) → HoldsAt N C at s m → walk s m ≡ u → r < 32 → Right (entry_of C s) (times N s m) (register (run s m).regs r) (form_read (at u) r)
-operand_right N C at s m u r holds e lt =
-    right_read (entry_of C s) (times N s m) (run s m).regs (at u) r (λ f k. subst (λ v. Alike (pos v) (exact f (entry_of C s) (times N s m))) is_register (holds r f (ap (λ x. at x r) e ∙ k)))
-  where
-    is_register : value_of C s.regs (run s m) r ≡ register (run s m).regs r
-    is_register =
-        let l : nat_lt r first_cell ≡ true = grind (arith, nat_tests) in
-        ap (λ b. if b then register (run s m).regs r else held s.regs (cell_at C.cells (r - first_cell)) (run s m).memory) l
 
 pub exit_told : (G : Graph) (levels : List Level) (nest : AreNest G levels) → AreProgramWords G → (C : CellMap) (at : ℕ → ℕ → Option LinearForm) (l : Level) (s : State) (m n : ℕ) → Among (nest_of G nest.root nest.inner) l → Tells G C at l s n
     → IsAtExit (nest_of G nest.root nest.inner) (code_of G C) at l s m → StaysBelow l s m (times (nest_of G nest.root nest.inner) s m l.depth) n
