@@ -7,7 +7,7 @@ ghost use Rattle.loop_data.specs.Accesses.{motion_of, motion_at, AreAccesses, Is
 ghost use Rattle.loop_data.specs.LoopCode.{code_of, instr_among};
 ghost use Rattle.loop_data.specs.LoopWords.{AreNest};
 ghost use Rattle.loop_data.specs.Locations.{no_cells};
-ghost use Rattle.loop_data.specs.Lookups.{cell_map, form_at};
+ghost use Rattle.loop_data.specs.Lookups.{cell_map, form_at, HasNoCells};
 ghost use Rattle.loop_data.specs.Nests.{Nest, Holds};
 ghost use Rattle.loop_data.specs.Paths.{IsInOrder};
 ghost use Rattle.loop_data.specs.Results.{IsNestOf, IsInnermost, IsAround};
@@ -196,8 +196,7 @@ pub fn accesses(
 ) -> Result<Accesses, Irregular>
     requires graph { IsInOrder graph.now }
     requires nest { AreNest graph.now shape.now.levels }
-    requires no_cells { cells.now.list.items ≡ [] }
-    requires no_uses { cells.now.uses.items ≡ [] }
+    requires no_cells { HasNoCells cells.now }
     requires few { (N : Nest) → IsNestOf graph.now shape.now.levels N
         → access_count (code_of graph.now (cell_map cells.now)) N.root.body ≤ 32 }
     ensures accesses { IfOk result (λ a. (N : Nest) → IsNestOf graph.now shape.now.levels N

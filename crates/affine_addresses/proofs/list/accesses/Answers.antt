@@ -33,7 +33,7 @@ accesses_of-requires-clause-room c =
     let nest = subst (λ (xs : List Level). AreNest G xs) (sym c.as_slice-levels.ensures) c.requires.nest in
     let e = c.as_slice-2.ensures ∙ ap (λ (l : Level). l.body) (first_is G ls nest c.index-levels-0.result) in
     let few = c.requires.few (nest_of G nest.root nest.inner) (subst (λ (xs : List Level). IsNestOf G xs (nest_of G nest.root nest.inner)) c.as_slice-levels.ensures (this_nest G ls nest)) in
-    let bare = subst (λ (C : CellMap). access_count (code_of G C) nest.root.body ≤ 32) (cells_none c.args.cells.now c.requires.no_cells c.requires.no_uses) few in
+    let bare = subst (λ (C : CellMap). access_count (code_of G C) nest.root.body ≤ 32) (cells_none c.args.cells.now c.requires.no_cells.cells c.requires.no_cells.uses) few in
     subst (λ (xs : List ℕ). access_count (code_of G no_cells) xs ≤ 32) (sym e) bare
 
 pub returns-clause-accesses : goal.returns-clause-accesses
@@ -47,7 +47,7 @@ returns-clause-accesses c =
     (λ (a : Accesses). AreAccesses ls c.as_slice-2.result.now (code_of G no_cells) (form_at c.as_slice.result.now) a.list.items)
     (λ (a : Accesses). (N : Nest) → IsNestOf G c.args.shape.now.levels N → AreAccesses c.args.shape.now.levels N.root.body (code_of G (cell_map c.args.cells.now)) (form_at c.args.equations.now.points) a.list.items)
     (λ (a : Accesses) h N is. carried (λ ls xs C ps. AreAccesses ls xs (code_of G C) (form_at ps) a.list.items) ls c.args.shape.now.levels c.as_slice-2.result.now N.root.body no_cells (cell_map c.args.cells.now) c.as_slice.result.now c.args.equations.now.points
-    c.as_slice-levels.ensures (body ∙ ap (λ (l : Level). l.body) (sym (back N is))) (sym (cells_none c.args.cells.now c.requires.no_cells c.requires.no_uses)) c.as_slice.ensures h)
+    c.as_slice-levels.ensures (body ∙ ap (λ (l : Level). l.body) (sym (back N is))) (sym (cells_none c.args.cells.now c.requires.no_cells.cells c.requires.no_cells.uses)) c.as_slice.ensures h)
     c.accesses_of.ensures.accesses
 
 pub returns-clause-irregular : goal.returns-clause-irregular
@@ -61,5 +61,5 @@ returns-clause-irregular c =
     (λ (e : Irregular). IsLeastIrregular c.as_slice-2.result.now (code_of G no_cells) (form_at c.as_slice.result.now) e.at)
     (λ (e : Irregular). (N : Nest) → IsNestOf G c.args.shape.now.levels N → IsLeastIrregular N.root.body (code_of G (cell_map c.args.cells.now)) (form_at c.args.equations.now.points) e.at)
     (λ (e : Irregular) h N is. carried (λ ls xs C ps. IsLeastIrregular xs (code_of G C) (form_at ps) e.at) ls c.args.shape.now.levels c.as_slice-2.result.now N.root.body no_cells (cell_map c.args.cells.now) c.as_slice.result.now c.args.equations.now.points
-    c.as_slice-levels.ensures (body ∙ ap (λ (l : Level). l.body) (sym (back N is))) (sym (cells_none c.args.cells.now c.requires.no_cells c.requires.no_uses)) c.as_slice.ensures h)
+    c.as_slice-levels.ensures (body ∙ ap (λ (l : Level). l.body) (sym (back N is))) (sym (cells_none c.args.cells.now c.requires.no_cells.cells c.requires.no_cells.uses)) c.as_slice.ensures h)
     c.accesses_of.ensures.irregular
