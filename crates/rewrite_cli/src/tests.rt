@@ -58,9 +58,19 @@ fn bytes_of(alloc: Global, words: &[u32]) -> Result<Vec<u8>, AllocError> {
     Ok(bytes)
 }
 
+// The flags of a segment that is read and executed, and of one that is executed alone.
+const READABLE_CODE: u32 = 5;
+
+const UNREADABLE_CODE: u32 = 1;
+
 // An executable whose one segment is the whole file, at 0x10000 and not writable. This code stands at
 // its entry 0x10078, and this text behind it.
 fn program(alloc: Global, code: &[u32], text: &str) -> Result<Vec<u8>, AllocError> {
+    program_of(alloc, READABLE_CODE, code, text)
+}
+
+// The same with these flags of the segment.
+fn program_of(alloc: Global, flags: u32, code: &[u32], text: &str) -> Result<Vec<u8>, AllocError> {
     let mut tail = bytes_of(alloc, code)?;
     tail.extend_from_slice(text.as_bytes())?;
     let size = u32::try_from(tail.len()).unwrap_or(0).wrapping_add(120);
@@ -82,7 +92,7 @@ fn program(alloc: Global, code: &[u32], text: &str) -> Result<Vec<u8>, AllocErro
         1,
         0, // the headers' place, their size and number
         1,
-        5,
+        flags,
         0,
         0,
         0x0001_0000,

@@ -1,6 +1,7 @@
 use super::{
     Case, ECHO, Failing, HELLO, HELLO_REPORT, LOAD_FAILS, NONE_FAILS, OUTPUT_FAILS, Outside,
-    PLAIN_RUN, REPORT_FAILS, RUN, check, check_all, outside_of, program,
+    PLAIN_RUN, READABLE_CODE, REPORT_FAILS, RUN, UNREADABLE_CODE, check, check_all, outside_of,
+    program, program_of,
 };
 use crate::reply::Reply;
 use crate::run::run_file;
@@ -28,26 +29,34 @@ fn program_runs_to_its_end(rt: HostRuntime) -> Result<(), AllocError> {
 // A program of a few words that faults, or ends, and the report of its run.
 #[derive(Clone, Copy)]
 struct Ending {
+    flags: u32,
     code: &'static [u32],
     report: &'static str,
     number: u8,
 }
 
-static ENDINGS: [Ending; 14] = [
+const FAULT: Ending = Ending {
+    flags: READABLE_CODE,
+    code: &[],
+    report: "",
+    number: 120,
+};
+
+static ENDINGS: [Ending; 15] = [
     Ending {
         code: &[0x0000_0053], // no instruction
         report: "hart 0 instructions 1\nsteps 1\nfault illegal pc 0x0000000000010078 addr 0x0000000000000053\n",
-        number: 120,
+        ..FAULT
     },
     Ending {
         code: &[0x7890_006f], // jal x0,0x11000, where the heap begins
         report: "hart 0 instructions 2\nsteps 2\nfault fetch pc 0x0000000000011000 addr 0x0000000000011000\n",
-        number: 120,
+        ..FAULT
     },
     Ending {
         code: &[0x0001_1363], // bne sp,x0,+6
         report: "hart 0 instructions 1\nsteps 1\nfault target pc 0x0000000000010078 addr 0x000000000001007e\n",
-        number: 120,
+        ..FAULT
     },
     Ending {
         code: &[
@@ -55,17 +64,26 @@ static ENDINGS: [Ending; 14] = [
             0x0010_0073, // ebreak
         ],
         report: "hart 0 instructions 2\nsteps 2\nfault break pc 0x000000000001007c addr 0x000000000001007c\n",
-        number: 120,
+        ..FAULT
     },
     Ending {
         code: &[0x0041_3503], // ld a0,4(sp)
         report: "hart 0 instructions 1\nsteps 1\nfault load-misaligned pc 0x0000000000010078 addr 0x000000007f7fffc4\n",
-        number: 120,
+        ..FAULT
     },
     Ending {
         code: &[0x0000_3503], // ld a0,0(x0)
         report: "hart 0 instructions 1\nsteps 1\nfault load-unmapped pc 0x0000000000010078 addr 0x0000000000000000\n",
-        number: 120,
+        ..FAULT
+    },
+    Ending {
+        flags: UNREADABLE_CODE,
+        code: &[
+            0x0001_0537, // lui a0,0x10
+            0x0005_3503, // ld a0,0(a0)
+        ],
+        report: "hart 0 instructions 2\nsteps 2\nfault load-denied pc 0x000000000001007c addr 0x0000000000010000\n",
+        ..FAULT
     },
     Ending {
         code: &[
@@ -73,7 +91,7 @@ static ENDINGS: [Ending; 14] = [
             0x0005_3023, // sd x0,0(a0)
         ],
         report: "hart 0 instructions 2\nsteps 2\nfault store-denied pc 0x000000000001007c addr 0x0000000000010000\n",
-        number: 120,
+        ..FAULT
     },
     Ending {
         code: &[
@@ -82,7 +100,7 @@ static ENDINGS: [Ending; 14] = [
         ],
         report: "hart 0 instructions 2\nsteps 2\n\
             fault store-misaligned pc 0x000000000001007c addr 0x0000000000010004\n",
-        number: 120,
+        ..FAULT
     },
     Ending {
         code: &[
@@ -90,7 +108,7 @@ static ENDINGS: [Ending; 14] = [
             0x0005_3023, // sd x0,0(a0)
         ],
         report: "hart 0 instructions 2\nsteps 2\nfault store-unmapped pc 0x000000000001007c addr 0x0000000060000000\n",
-        number: 120,
+        ..FAULT
     },
     Ending {
         code: &[
@@ -98,18 +116,18 @@ static ENDINGS: [Ending; 14] = [
             0x0005_0067, // jalr x0,0(a0)
         ],
         report: "hart 0 instructions 3\nsteps 3\nfault fetch pc 0x0000000060000000 addr 0x0000000060000000\n",
-        number: 120,
+        ..FAULT
     },
     Ending {
         code: &[0x0040_3503], // ld a0,4(x0)
         report: "hart 0 instructions 1\nsteps 1\nfault load-misaligned pc 0x0000000000010078 addr 0x0000000000000004\n",
-        number: 120,
+        ..FAULT
     },
     Ending {
         code: &[0x0000_3223], // sd x0,4(x0)
         report: "hart 0 instructions 1\nsteps 1\n\
             fault store-misaligned pc 0x0000000000010078 addr 0x0000000000000004\n",
-        number: 120,
+        ..FAULT
     },
     // The code is taken modulo 256, and may be the status of another answer.
     Ending {
@@ -120,6 +138,7 @@ static ENDINGS: [Ending; 14] = [
         ],
         report: "hart 0 instructions 3\nsteps 3\nexit 123\n",
         number: 123,
+        ..FAULT
     },
     Ending {
         code: &[
@@ -129,12 +148,13 @@ static ENDINGS: [Ending; 14] = [
         ],
         report: "hart 0 instructions 3\nsteps 3\nexit 255\n",
         number: 255,
+        ..FAULT
     },
 ];
 
 fn check_endings<R: Threads + Sync + Abort>(rt: &R, alloc: Global) -> Result<(), AllocError> {
     for ending in &ENDINGS {
-        let file = program(alloc, ending.code, "")?;
+        let file = program_of(alloc, ending.flags, ending.code, "")?;
         let case = Case {
             report: ending.report,
             number: ending.number,
