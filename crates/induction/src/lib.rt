@@ -8,6 +8,8 @@ mod moves;
 mod nest;
 pub mod refusal;
 mod rows;
+#[cfg(test)]
+mod tests;
 mod words;
 mod writers;
 
