@@ -90,18 +90,12 @@ fn access_by(
     ensures { IsFound levels.now (form_at points.now at) at (motion_of (Some instr)) result }
 {
     match instr {
-        Instr::Load {
-            op,
-            rd: _,
-            rs1,
-            imm,
-        } => { Some(access_from(levels, points, at, rs1, imm, op.width(), false)) }
-        Instr::Store {
-            op,
-            rs1,
-            rs2: _,
-            imm,
-        } => { Some(access_from(levels, points, at, rs1, imm, op.width(), true)) }
+        Instr::Load { op, rs1, imm, .. } => {
+            Some(access_from(levels, points, at, rs1, imm, op.width(), false))
+        }
+        Instr::Store { op, rs1, imm, .. } => {
+            Some(access_from(levels, points, at, rs1, imm, op.width(), true))
+        }
         _ => None,
     }
 }

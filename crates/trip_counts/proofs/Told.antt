@@ -48,9 +48,9 @@ toward_is d rel signed f g entry n trip e k = go (is_still g && (moves_at d f &&
     go : (b : Bool) → (is_still g && (moves_at d f && approaches rel (stride f d))) ≡ b → (if b then Some (record { relation = rel; signed = signed; start = f; bound = g; step = stride f d }) else None) ≡ Some trip → Toward d rel signed f g entry n
     go false h e = absurd (cc)
     go true h e =
+        let q : made ≡ trip = cc in
         let a = and_true _ _ h in
         let b = and_true _ _ a.1 in
-        let q : made ≡ trip = cc in
         record {
           still = a.0;
           moves = b.0;

@@ -1,1 +1,2 @@
 pub mod TripLaws
+pub mod Worked
