@@ -115,7 +115,8 @@ relates AtMost x b = not (int_lt b x)
 relates More x b = int_lt b x
 relates AtLeast x b = not (int_lt x b)
 
--- how often x, which gains a in each turn, is related to b: as integers, which do not wrap
+-- how often x, which gains a in each turn, is related to b: as integers, which do not wrap. Of a difference it is
+-- so only if it comes to b at all
 abbrev pub count : Relation → ℤ → ℤ → ℤ → ℕ
 count Differ x a b = unsigned_abs (b -ℤ x) / unsigned_abs a
 count Less x a b = if int_lt x b then suc ((unsigned_abs (b -ℤ x) - 1) / unsigned_abs a) else 0
@@ -123,8 +124,8 @@ count AtMost x a b = if int_lt b x then 0 else suc (unsigned_abs (b -ℤ x) / un
 count More x a b = if int_lt b x then suc ((unsigned_abs (x -ℤ b) - 1) / unsigned_abs a) else 0
 count AtLeast x a b = if int_lt x b then 0 else suc (unsigned_abs (x -ℤ b) / unsigned_abs a)
 
--- after so many turns the relation has ended: of a difference, as an integer, and of any other also as the word
--- to which it wraps
+-- after so many turns the relation has ended: of a difference, as an integer; of any other, where a turn stays at
+-- all, as the word to which it wraps
 abbrev pub has_ended : Relation → Bool → ℤ → ℤ → ℤ → ℕ → Bool
 has_ended Differ signed x a b n = is_zero (x +ℤ a *ℤ pos n -ℤ b)
 has_ended relation signed x a b n =

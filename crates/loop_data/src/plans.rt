@@ -6,7 +6,7 @@ use crate::shape::LoopShape;
 /// their signs, in bytes.
 #[derive(Clone, Copy, PartialEq, Eq, Debug)]
 pub enum Term {
-    /// They have equal strides in the root, and in each inner loop where both have one.
+    /// They have the same stride in the root, and the same in each inner loop.
     Same {
         /// The size of the stride in the root.
         root: u64,

@@ -23,8 +23,7 @@ pub struct Trip {
     pub relation: Relation,
     /// Whether the words are read as signed numbers, as always for `Differ`.
     pub signed: bool,
-    /// The form of the word that moves, at turn number 0 of the loop: for `Differ`, the first operand less the
-    /// second.
+    /// The form of the word that moves, with its stride: for `Differ`, of the first operand less the second.
     pub start: Form,
     /// The form of the word that it is compared with: for `Differ`, 0.
     pub bound: Form,

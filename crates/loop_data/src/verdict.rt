@@ -60,7 +60,7 @@ pub enum Verdict {
     NoTrip {
         at: u64,
     },
-    /// The addresses of an access have no common stride.
+    /// The address of an access has no form, or a stride that is no multiple of the access's width.
     Irregular {
         at: u64,
     },
