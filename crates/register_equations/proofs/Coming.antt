@@ -1,5 +1,5 @@
 -- Forms that come along edges, and terms place by place.
-use Rattle.std.proofs.Common.{◌≡◌, ◌≢◌, ℕ, zero, suc, ◌+◌, ◌<◌, ◌≤◌, ◌⊎◌, ◌↔◌, inl, inr, Bool, true, false, IsTrue, List, [], length, get_or, set, Option, Some, None, refl, ap, sym, ◌∙◌, subst, arith, ℤ, to_z, of_z, w64, ◌==◌, ◌||◌, ◌++◌, ◌∷◌, if◌then◌else◌, take, replicate}
+use Rattle.std.proofs.Common.{◌≡◌, ◌≢◌, ℕ, zero, suc, ◌+◌, ◌<◌, ◌≤◌, ◌⊎◌, ◌↔◌, inl, inr, Bool, true, false, IsTrue, List, [], length, get_or, set, drop, Option, Some, None, refl, ap, sym, ◌∙◌, subst, arith, ℤ, to_z, of_z, w64, ◌==◌, ◌||◌, ◌++◌, ◌∷◌, if◌then◌else◌, take, replicate}
 use Rattle.std.specs.List.{All}
 use Rattle.std.proofs.lemmas.Bool.{cases_eq}
 use Rattle.std.proofs.lemmas.List.{get_or-set_same, get_or-set_other, get_or-map, take_more}
@@ -27,6 +27,15 @@ met_differs P ks o g d some h e n f = (λ q. absurd (cc), back)
         let q : f ≡ g = cc in
         let t : IsTrue false = n.1 (subst (λ x. All (λ k. P k x) ks) q a) in
         absurd (cc)
+
+-- all have it where the first has, and those behind it
+pub all_past : (P : ℕ → Type 0) (ks : List ℕ) (d : ℕ) (b : Bool) → 1 ≤ length ks → P (get_or ks 0 d) → (IsTrue b ↔ All P (drop 1 ks)) → IsTrue b ↔ All P ks
+all_past P [] d b some first n = absurd (omega arith)
+all_past P (x ∷ xs) d b some first n = (λ t. forth t, λ a. n.1 (λ i e l. a (suc i) e (omega arith)))
+  where
+    forth : IsTrue b → (i e : ℕ) → i < length (x ∷ xs) → P (get_or (x ∷ xs) i e)
+    forth t zero e l = first
+    forth t (suc i) e l = n.0 t i e (omega arith)
 
 pub met_nothing : (P : ℕ → LinearForm → Type 0) (ks : List ℕ) (o : Option LinearForm) (d : ℕ) → 1 ≤ length ks → ((f : LinearForm) → (o ≡ Some f) ↔ P (get_or ks 0 d) f) → o ≡ None
     → (f : LinearForm) → (None ≡ Some f) ↔ All (λ k. P k f) ks

@@ -1,4 +1,4 @@
-ghost use Rattle.std.specs.Prelude.{◌≡◌, ◌<◌, ◌≤◌, ◌↔◌, length, Some, IsTrue, slice_index_or, None, pos};
+ghost use Rattle.std.specs.Prelude.{◌≡◌, ◌<◌, ◌≤◌, ◌↔◌, length, Some, IsTrue, slice_index, slice_index_or, drop, None, pos};
 ghost use Rattle.std.specs.List.{All, Contains};
 ghost use Rattle.std.specs.List.Sorted.{IsStrictlyIncreasing};
 ghost use Rattle.linear_forms.specs.Forms.{LinearForm, stride};
@@ -231,6 +231,35 @@ fn all_come(
         .all(|k| comes(inner, flow, points, *k, v, r, form))
 }
 
+/// The places but the first.
+fn rest(sources: &[usize]) -> &[usize]
+    requires { 1 ≤ length sources.now }
+    ensures { result.now ≡ drop 1 sources.now }
+{
+    &sources[1..]
+}
+
+/// Whether this form comes along the edges from all these places, where it comes from the first.
+fn others_come(
+    inner: &[Level],
+    flow: &Flow,
+    points: &[Point],
+    sources: &[usize],
+    v: u64,
+    r: usize,
+    form: &Form,
+) -> bool
+    requires bodies { All (λ l. IsStrictlyIncreasing l.body) inner.now }
+    requires some { 1 ≤ length sources.now }
+    requires within { All (λ k. k < length points.now) sources.now }
+    requires count { length flow.now.instrs.items ≡ length points.now }
+    requires location { r < 48 }
+    requires first { Comes inner.now flow.now.instrs.items points.now (slice_index sources.now 0) v r form.now }
+    ensures { IsTrue result ↔ All (λ k. Comes inner.now flow.now.instrs.items points.now k v r form.now) sources.now }
+{
+    all_come(inner, flow, points, rest(sources), v, r, form)
+}
+
 /// The form that comes along the edges from all these places to the word at v.
 pub fn met_form(
     inner: &[Level],
@@ -249,7 +278,7 @@ pub fn met_form(
 {
     match coming(inner, flow, points, sources[0], v, r) {
         Some(form) => {
-            if all_come(inner, flow, points, sources, v, r, &form) {
+            if others_come(inner, flow, points, sources, v, r, &form) {
                 Some(form)
             } else {
                 None
