@@ -8,7 +8,6 @@ use Rattle.loop_data.specs.declared.graph.Graph.{Graph}
 use Rattle.loop_data.specs.declared.shape.Level.{Level}
 use Rattle.loop_data.specs.Nests.{Nest, In, Holds, nest_of}
 use Rattle.loop_data.specs.LoopWords.{AreNest}
-use Rattle.loop_data.specs.Locations.{CellMap}
 use Rattle.loop_data.specs.Results.{IsNestOf}
 use Rattle.loop_data.proofs.FlowEdges.{listed_in}
 use Rattle.loop_data.proofs.Steps.{contains_has}
@@ -22,9 +21,8 @@ if_err (Ok a) P Q f p = p
 if_err (Err e) P Q f p = f e p
 
 -- what is so of some lists is so of the same lists
-pub carried : (P : List Level → List ℕ → CellMap → List Point → Type 0) (ls ms : List Level) (xs ys : List ℕ) (C D : CellMap) (ps qs : List Point) → ls ≡ ms → xs ≡ ys → C ≡ D → ps ≡ qs → P ls xs C ps → P ms ys D qs
-carried P ls ms xs ys C D ps qs a b c d h =
-    subst (λ z. P ms ys D z) d (subst (λ z. P ms ys z ps) c (subst (λ z. P ms z C ps) b (subst (λ z. P z xs C ps) a h)))
+pub carried : (P : List Level → List ℕ → List Point → Type 0) (ls ms : List Level) (xs ys : List ℕ) (ps qs : List Point) → ls ≡ ms → xs ≡ ys → ps ≡ qs → P ls xs ps → P ms ys qs
+carried P ls ms xs ys ps qs a b c h = subst (λ z. P ms ys z) c (subst (λ z. P ms z ps) b (subst (λ z. P z xs ps) a h))
 
 module _ (G : Graph) (ls : List Level) (nest : AreNest G ls) where
   pub deep : (l : Level) → Contains ls l → l.depth < 3

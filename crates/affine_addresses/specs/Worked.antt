@@ -4,7 +4,8 @@ use Rattle.rv64_decode.specs.declared.memory.Width.{Width}
 use Rattle.linear_forms.specs.Forms.{LinearForm, moving}
 use Rattle.loop_data.specs.Accesses.{address_form, if_regular}
 
--- x10 has this step in each turn of the root, and this one in each pass of the loop inside; no other register has a form
+-- x10 has this step in each turn of the root, and this one in each pass of the loop inside; no other register has
+-- a form
 abbrev pub pointer : ℤ → ℤ → LinearForm
 pointer step inner_step = record (moving 10 step) { second = inner_step }
 

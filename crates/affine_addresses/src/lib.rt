@@ -1,4 +1,4 @@
-//! The accesses of a loop to memory, with the forms of their addresses.
+//! The accesses of a loop to memory but to its cells, with the forms of their addresses.
 #![tactic(auto)]
 
 mod addresses;

@@ -1,4 +1,4 @@
-ghost use Rattle.std.specs.Prelude.{ℕ, ◌≡◌, ◌<◌, ◌≤◌, [], length, Some, IfOk, OnOk, IfErr, slice_index, slice_index_or};
+ghost use Rattle.std.specs.Prelude.{ℕ, ◌≡◌, ◌<◌, ◌≤◌, length, is_some, Some, IfOk, OnOk, IfErr, slice_index, slice_index_or};
 ghost use Rattle.std.specs.List.{All, Contains};
 ghost use Rattle.std.specs.List.Sorted.{IsStrictlyIncreasing};
 ghost use Rattle.arrayvec.specs.ArrayVec.{array_vec_len};
@@ -6,8 +6,7 @@ ghost use Rattle.loop_data.specs.declared.shape.Level.{Level};
 ghost use Rattle.loop_data.specs.Accesses.{motion_of, motion_at, AreAccesses, IsLeastIrregular, access_count};
 ghost use Rattle.loop_data.specs.LoopCode.{code_of, instr_among};
 ghost use Rattle.loop_data.specs.LoopWords.{AreNest};
-ghost use Rattle.loop_data.specs.Locations.{no_cells};
-ghost use Rattle.loop_data.specs.Lookups.{cell_map, form_at, HasNoCells};
+ghost use Rattle.loop_data.specs.Lookups.{cell_map, form_at, use_of};
 ghost use Rattle.loop_data.specs.Nests.{Nest, Holds};
 ghost use Rattle.loop_data.specs.Paths.{IsInOrder};
 ghost use Rattle.loop_data.specs.Results.{IsNestOf, IsInnermost, IsAround};
@@ -100,9 +99,22 @@ fn access_by(
     }
 }
 
-/// The access of the word at an address, if it is a load or a store.
+/// Whether the word at an address is among those that access a cell.
+fn is_used(uses: &[(u64, u8)], at: u64) -> bool
+    ensures { result ≡ is_some (use_of uses.now at) }
+{
+    for used in uses {
+        if used.0 == at {
+            return true;
+        }
+    }
+    false
+}
+
+/// The access of the word at an address, if it is a load or a store of no cell.
 fn access_at(
     graph: &Graph,
+    cells: &Cells,
     levels: &[Level],
     points: &[Point],
     at: u64,
@@ -112,17 +124,22 @@ fn access_at(
     requires few { length levels.now ≤ 4 }
     requires depths { (l : Level) → Contains levels.now l → l.depth < 3 }
     requires held { (l : Level) × Contains levels.now l × Holds l at }
-    ensures { IsFound levels.now (form_at points.now at) at (motion_at (code_of graph.now no_cells) at) result }
+    ensures { IsFound levels.now (form_at points.now at) at (motion_at (code_of graph.now
+        (cell_map cells.now)) at) result }
 {
+    if is_used(cells.uses.as_slice(), at) {
+        return None;
+    }
     match instr_at(graph, at) {
         Some(instr) => access_by(levels, points, at, instr),
         None => None,
     }
 }
 
-/// Puts the access of the word at an address at the end, if it is a load or a store.
+/// Puts the access of the word at an address at the end, if it is a load or a store of no cell.
 fn add_access(
     graph: &Graph,
+    cells: &Cells,
     levels: &[Level],
     points: &[Point],
     at: u64,
@@ -133,13 +150,13 @@ fn add_access(
     requires few { length levels.now ≤ 4 }
     requires depths { (l : Level) → Contains levels.now l → l.depth < 3 }
     requires held { (l : Level) × Contains levels.now l × Holds l at }
-    requires room { HasRoom (motion_at (code_of graph.now no_cells) at) (array_vec_len list.old) }
+    requires room { HasRoom (motion_at (code_of graph.now (cell_map cells.now)) at) (array_vec_len list.old) }
     ensures added { OnOk result (IsAdded levels.now (form_at points.now at) at
-        (motion_at (code_of graph.now no_cells) at) list.old.items list.new.items) }
+        (motion_at (code_of graph.now (cell_map cells.now)) at) list.old.items list.new.items) }
     ensures refused { IfErr result (λ e. (e.at ≡ at)
-        × IsRefused (form_at points.now at) (motion_at (code_of graph.now no_cells) at)) }
+        × IsRefused (form_at points.now at) (motion_at (code_of graph.now (cell_map cells.now)) at)) }
 {
-    match access_at(graph, levels, points, at) {
+    match access_at(graph, cells, levels, points, at) {
         Some(Ok(access)) => {
             list.push(access);
             Ok(())
@@ -152,6 +169,7 @@ fn add_access(
 /// The accesses of the words of a body, in address order.
 fn accesses_of(
     graph: &Graph,
+    cells: &Cells,
     levels: &[Level],
     points: &[Point],
     body: &[u64],
@@ -163,15 +181,15 @@ fn accesses_of(
     requires held { (k : ℕ) → k < length body.now
         → (l : Level) × Contains levels.now l × Holds l (slice_index body.now k) }
     requires ordered { IsStrictlyIncreasing body.now }
-    requires room { access_count (code_of graph.now no_cells) body.now ≤ 32 }
-    ensures accesses { IfOk result (λ a. AreAccesses levels.now body.now (code_of graph.now no_cells)
+    requires room { access_count (code_of graph.now (cell_map cells.now)) body.now ≤ 32 }
+    ensures accesses { IfOk result (λ a. AreAccesses levels.now body.now (code_of graph.now (cell_map cells.now))
         (form_at points.now) a.list.items) }
-    ensures irregular { IfErr result (λ e. IsLeastIrregular body.now (code_of graph.now no_cells)
+    ensures irregular { IfErr result (λ e. IsLeastIrregular body.now (code_of graph.now (cell_map cells.now))
         (form_at points.now) e.at) }
 {
     let mut list = ArrayVec::new();
     for i in 0..body.len() {
-        match add_access(graph, levels, points, body[i], &mut list) {
+        match add_access(graph, cells, levels, points, body[i], &mut list) {
             Ok(()) => {}
             Err(error) => return Err(error),
         }
@@ -179,9 +197,9 @@ fn accesses_of(
     Ok(Accesses { list })
 }
 
-/// The loads and stores of a listed loop without cells, in address order, with the forms of their addresses,
-/// where the forms at its words are these. It is refused at the least load or store whose address has no form,
-/// or of whose strides one is no multiple of its width.
+/// The loads and stores of a listed loop that are no accesses of its cells, in address order, with the forms of
+/// their addresses, where the forms at its words are these. It is refused at the least of them whose address has
+/// no form, or of whose strides one is no multiple of its width.
 pub fn accesses(
     shape: &LoopShape,
     graph: &Graph,
@@ -190,7 +208,6 @@ pub fn accesses(
 ) -> Result<Accesses, Irregular>
     requires graph { IsInOrder graph.now }
     requires nest { AreNest graph.now shape.now.levels }
-    requires no_cells { HasNoCells cells.now }
     requires few { (N : Nest) → IsNestOf graph.now shape.now.levels N
         → access_count (code_of graph.now (cell_map cells.now)) N.root.body ≤ 32 }
     ensures accesses { IfOk result (λ a. (N : Nest) → IsNestOf graph.now shape.now.levels N
@@ -201,10 +218,6 @@ pub fn accesses(
         e.at) }
 {
     let levels = shape.levels.as_slice();
-    accesses_of(
-        graph,
-        levels,
-        equations.points.as_slice(),
-        levels[0].body.as_slice(),
-    )
+    let body = levels[0].body.as_slice();
+    accesses_of(graph, cells, levels, equations.points.as_slice(), body)
 }
