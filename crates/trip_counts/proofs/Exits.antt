@@ -30,7 +30,7 @@ use Rattle.loop_data.proofs.Steps.{is_leads}
 use Rattle.loop_data.proofs.Arounds.{time_at}
 use Rattle.loop_data.proofs.NestVisits.{AreGiven, are_given, found_instr, here, holds_word, sound, step_is}
 use Rattle.loop_data.proofs.Operands.{operand_right}
-use Rattle.trip_counts.specs.TripLaws.{Tells, IsAtExit, StaysBelow}
+use Rattle.trip_counts.specs.TripLaws.{Tells, IsAtExit, StaysUntil}
 use Rattle.trip_counts.proofs.Told.{Turns, trip_told}
 
 -- the branch that a trip comes from
@@ -126,7 +126,7 @@ leads_out l to pc regs false true e s q = go (to % 4 == 0)
 leads_out l to pc regs false false e s q = absurd (cc)
 
 pub exit_told : (G : Graph) (levels : List Level) (nest : AreNest G levels) → AreProgramWords G → (C : CellMap) (at : ℕ → ℕ → Option LinearForm) (l : Level) (s : State) (m n : ℕ) → Among (nest_of G nest.root nest.inner) l → Tells G C at l s n
-    → IsAtExit (nest_of G nest.root nest.inner) (code_of G C) at l s m → StaysBelow l s m (times (nest_of G nest.root nest.inner) s m l.depth) n
+    → IsAtExit (nest_of G nest.root nest.inner) (code_of G C) at l s m → StaysUntil l s m (times (nest_of G nest.root nest.inner) s m l.depth) n
 exit_told G ls nest words C at l s m n i tells exit =
     record {
       stays = λ lt. subst (λ x. goes_at (has l.body) x ≡ true) (sym next) (leads_in l to l.exit regs (has l.body to) c refl two (aligned G ls nest l to i) (told.below lt));
@@ -192,15 +192,15 @@ exit_told G ls nest words C at l s m n i tells exit =
 
 -- by its turns, and by its passes
 pub turn_told : (G : Graph) (levels : List Level) (nest : AreNest G levels) → AreProgramWords G → (C : CellMap) (at : ℕ → ℕ → Option LinearForm) (s : State) (m n : ℕ) → Tells G C at nest.root s n
-    → IsAtExit (nest_of G nest.root nest.inner) (code_of G C) at nest.root s m → StaysBelow nest.root s m (turn nest.root s m) n
+    → IsAtExit (nest_of G nest.root nest.inner) (code_of G C) at nest.root s m → StaysUntil nest.root s m (turn nest.root s m) n
 turn_told G ls nest words C at s m n tells exit =
-    subst (λ d. StaysBelow nest.root s m (times (nest_of G nest.root nest.inner) s m d) n) nest.nest.bodies.outermost
+    subst (λ d. StaysUntil nest.root s m (times (nest_of G nest.root nest.inner) s m d) n) nest.nest.bodies.outermost
     (exit_told G ls nest words C at nest.root s m n (inl refl) tells exit)
 
 pub pass_told : (G : Graph) (levels : List Level) (nest : AreNest G levels) → AreProgramWords G → (C : CellMap) (at : ℕ → ℕ → Option LinearForm) (l : Level) (s : State) (m n : ℕ) → In nest.inner l → Tells G C at l s n
-    → IsAtExit (nest_of G nest.root nest.inner) (code_of G C) at l s m → StaysBelow l s m (pass l (walk s) m) n
+    → IsAtExit (nest_of G nest.root nest.inner) (code_of G C) at l s m → StaysUntil l s m (pass l (walk s) m) n
 pass_told G ls nest words C at l s m n i tells exit =
-    subst (λ t. StaysBelow l s m t n) (deep l.depth (nest.nest.bodies.inner_deep l i) ∙ time_at (nest_of G nest.root nest.inner) l (walk s) m nest.nest (inr i) inside)
+    subst (λ t. StaysUntil l s m t n) (deep l.depth (nest.nest.bodies.inner_deep l i) ∙ time_at (nest_of G nest.root nest.inner) l (walk s) m nest.nest (inr i) inside)
     (exit_told G ls nest words C at l s m n (inr i) tells exit)
   where
     inside : has l.body (walk s m) ≡ true

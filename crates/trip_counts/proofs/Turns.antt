@@ -18,7 +18,7 @@ use Rattle.loop_data.specs.Holds.{HoldsAt, FormsHold}
 use Rattle.loop_data.specs.Executing.{AreProgramWords, Executes}
 use Rattle.loop_data.proofs.Tests.{eq_of, ne_of, yes_no}
 use Rattle.loop_data.proofs.NestVisits.{AreGiven, are_given, here, holds_word, step_is, leads_there}
-use Rattle.trip_counts.specs.TripLaws.{Tells, StaysBelow, Follows, IsNumberOfStays}
+use Rattle.trip_counts.specs.TripLaws.{Tells, StaysUntil, Follows, IsNumberOfStays}
 use Rattle.trip_counts.proofs.Exits.{turn_told}
 
 -- a run that does not go on never goes on
@@ -54,7 +54,7 @@ record HasLeft (N : Nest) (B : LoopCode) (s : State) (m : ℕ) : Type 0 where
   pub exit : (run s visit).next ≡ At N.root.exit
   pub out : goes_at (has N.root.body) (run s (suc visit)).next ≡ false
 
-module _ (G : Graph) (ls : List Level) (nest : AreNest G ls) (words : AreProgramWords G) (C : CellMap) (s : State) (follows : Follows (nest_of G nest.root nest.inner) (code_of G C) s) where
+module _ (G : Graph) (ls : List Level) (nest : AreNest G ls) (words : AreProgramWords G) (C : CellMap) (s : State) (n : ℕ) (follows : Follows (nest_of G nest.root nest.inner) (code_of G C) s n) where
   given : AreGiven (nest_of G nest.root nest.inner) (code_of G C)
   given = are_given G ls nest C words
 
@@ -68,14 +68,17 @@ module _ (G : Graph) (ls : List Level) (nest : AreNest G ls) (words : AreProgram
         words = λ k lt. absurd (omega arith);
       }
 
-  on : (m : ℕ) → Executes nest.root (code_of G C) s m → goes_at (has nest.root.body) (run s (suc m)).next ≡ true → Executes nest.root (code_of G C) s (suc m)
-  on m e inside =
+  early : (k m : ℕ) → k ≤ m → turn nest.root s m ≤ n → turn nest.root s k ≤ n
+  early k m le bound = let r = turn_rises nest.root s k m le in omega arith
+
+  on : (m : ℕ) → turn nest.root s m ≤ n → Executes nest.root (code_of G C) s m → goes_at (has nest.root.body) (run s (suc m)).next ≡ true → Executes nest.root (code_of G C) s (suc m)
+  on m bound e inside =
       record {
         start = e.start;
         registers = e.registers;
         bytes = e.bytes;
         inside = λ k le. each k le (cases_lt k (suc m));
-        words = λ k lt. follows.words k (e.inside k (omega arith));
+        words = λ k lt. follows.words k (early k m (omega arith) bound) (e.inside k (omega arith));
       }
     where
       each : (k : ℕ) → k ≤ suc m → (k < suc m) ⊎ (suc m ≤ k) → goes_at (has nest.root.body) (run s k).next ≡ true
@@ -83,8 +86,8 @@ module _ (G : Graph) (ls : List Level) (nest : AreNest G ls) (words : AreProgram
       each k le (inr ge) = let q : suc m ≡ k = omega arith in subst (λ i. goes_at (has nest.root.body) (run s i).next ≡ true) q inside
 
   -- a visit after which the run is elsewhere is at the exit branch
-  leaving : (m v : ℕ) → Executes nest.root (code_of G C) s m → (run s (suc m)).next ≡ At v → goes_at (has nest.root.body) (run s (suc m)).next ≡ false → (run s m).next ≡ At nest.root.exit
-  leaving m v e q out = go (walk s m == nest.root.exit) refl
+  leaving : (m v : ℕ) → turn nest.root s m ≤ n → Executes nest.root (code_of G C) s m → (run s (suc m)).next ≡ At v → goes_at (has nest.root.body) (run s (suc m)).next ≡ false → (run s m).next ≡ At nest.root.exit
+  leaving m v bound e q out = go (walk s m == nest.root.exit) refl
     where
       at_here : (run s m).next ≡ At (walk s m)
       at_here = here (nest_of G nest.root nest.inner) (code_of G C) given s m e m (omega arith)
@@ -95,7 +98,7 @@ module _ (G : Graph) (ls : List Level) (nest : AreNest G ls) (words : AreProgram
       leads : (nest_of G nest.root nest.inner).leads (walk s m) v ≡ true
       leads =
           let w = given (walk s m) holds in
-          let next = step_is (run s m) (walk s m) w.does at_here (follows.words m (e.inside m (omega arith)) ∙ w.is) in
+          let next = step_is (run s m) (walk s m) w.does at_here (follows.words m bound (e.inside m (omega arith)) ∙ w.is) in
           w.leads v (leads_there w.does (walk s m) v (run s m).regs (answer (run s m).memory (asks w.does (run s m).regs)) w.plain (sym (ap (λ (x : State). x.next) next) ∙ q))
 
       go : (b : Bool) → (walk s m == nest.root.exit) ≡ b → (run s m).next ≡ At nest.root.exit
@@ -105,18 +108,21 @@ module _ (G : Graph) (ls : List Level) (nest : AreNest G ls) (words : AreProgram
           absurd (yes_no _ inside (subst (λ x. goes_at (has nest.root.body) x ≡ false) q out))
 
   -- a run that still goes on has been in the root so far, or has left it
-  so_far : (m v : ℕ) → (run s m).next ≡ At v → Executes nest.root (code_of G C) s m ⊎ HasLeft (nest_of G nest.root nest.inner) (code_of G C) s m
-  so_far zero v q = inl begin
-  so_far (suc m) v q = before (run s m).next refl (λ u f. so_far m u f)
+  so_far : (m v : ℕ) → turn nest.root s m ≤ n → (run s m).next ≡ At v → Executes nest.root (code_of G C) s m ⊎ HasLeft (nest_of G nest.root nest.inner) (code_of G C) s m
+  so_far zero v bound q = inl begin
+  so_far (suc m) v bound q = before (run s m).next refl (λ u f. so_far m u (early m (suc m) (omega arith) bound) f)
     where
+      low : turn nest.root s m ≤ n
+      low = early m (suc m) (omega arith) bound
+
       after : Executes nest.root (code_of G C) s m ⊎ HasLeft (nest_of G nest.root nest.inner) (code_of G C) s m
           → Executes nest.root (code_of G C) s (suc m) ⊎ HasLeft (nest_of G nest.root nest.inner) (code_of G C) s (suc m)
       after (inr h) = inr (record { visit = h.visit; before = let b = h.before in omega arith; executes = h.executes; exit = h.exit; out = h.out })
       after (inl e) = go (goes_at (has nest.root.body) (run s (suc m)).next) refl
         where
           go : (b : Bool) → goes_at (has nest.root.body) (run s (suc m)).next ≡ b → Executes nest.root (code_of G C) s (suc m) ⊎ HasLeft (nest_of G nest.root nest.inner) (code_of G C) s (suc m)
-          go true f = inl (on m e f)
-          go false f = inr (record { visit = m; before = omega arith; executes = e; exit = leaving m v e q f; out = f })
+          go true f = inl (on m low e f)
+          go false f = inr (record { visit = m; before = omega arith; executes = e; exit = leaving m v low e q f; out = f })
 
       before : (x : Next) → (run s m).next ≡ x → ((u : ℕ) → (run s m).next ≡ At u → Executes nest.root (code_of G C) s m ⊎ HasLeft (nest_of G nest.root nest.inner) (code_of G C) s m)
           → Executes nest.root (code_of G C) s (suc m) ⊎ HasLeft (nest_of G nest.root nest.inner) (code_of G C) s (suc m)
@@ -124,17 +130,17 @@ module _ (G : Graph) (ls : List Level) (nest : AreNest G ls) (words : AreProgram
       before Call f later = let k = sym (step_call (run s m) f) ∙ q in absurd (cc)
       before (Faulting kind addr) f later = let k = sym (step_fault (run s m) kind addr f) ∙ q in absurd (cc)
 
-  module _ (at : ℕ → ℕ → Option LinearForm) (n : ℕ) (tells : Tells G C at nest.root s n) (forms : FormsHold (nest_of G nest.root nest.inner) C at s n) where
-    told : (m : ℕ) → Executes nest.root (code_of G C) s m → (run s m).next ≡ At nest.root.exit → HoldsAt (nest_of G nest.root nest.inner) C at s m → StaysBelow nest.root s m (turn nest.root s m) n
-    told m e q holds =
+  module _ (at : ℕ → ℕ → Option LinearForm) (tells : Tells G C at nest.root s n) (forms : FormsHold (nest_of G nest.root nest.inner) C at s n) where
+    told : (m : ℕ) → turn nest.root s m ≤ n → Executes nest.root (code_of G C) s m → (run s m).next ≡ At nest.root.exit → HoldsAt (nest_of G nest.root nest.inner) C at s m → StaysUntil nest.root s m (turn nest.root s m) n
+    told m bound e q holds =
         turn_told G ls nest words C at s m n tells
-        (record { executes = e; word = follows.words m (e.inside m (omega arith)); exit = ap pc_in q; holds = holds })
+        (record { executes = e; word = follows.words m bound (e.inside m (omega arith)); exit = ap pc_in q; holds = holds })
 
     clash : (m : ℕ) → Executes nest.root (code_of G C) s m → turn nest.root s m < n → (run s m).next ≡ At nest.root.exit → goes_at (has nest.root.body) (run s (suc m)).next ≡ false → ⊥
-    clash m e lt q out = yes_no _ ((told m e q (forms m lt (e.inside m (omega arith)))).stays lt) out
+    clash m e lt q out = yes_no _ ((told m (omega arith) e q (forms m lt (e.inside m (omega arith)))).stays lt) out
 
     below : (m : ℕ) → turn nest.root s m < n → Leaves nest.root s m → ⊥
-    below m lt leaves = go (so_far m nest.root.exit leaves.exit)
+    below m lt leaves = go (so_far m nest.root.exit (omega arith) leaves.exit)
       where
         go : Executes nest.root (code_of G C) s m ⊎ HasLeft (nest_of G nest.root nest.inner) (code_of G C) s m → ⊥
         go (inl e) = clash m e lt leaves.exit leaves.out
@@ -144,10 +150,10 @@ module _ (G : Graph) (ls : List Level) (nest : AreNest G ls) (words : AreProgram
             clash h.visit h.executes (omega arith) h.exit h.out
 
     stays : (m : ℕ) → turn nest.root s m ≡ n → (run s m).next ≡ At nest.root.exit → HoldsAt (nest_of G nest.root nest.inner) C at s m → Stays nest.root s n
-    stays m t q holds = go (so_far m nest.root.exit q)
+    stays m t q holds = go (so_far m nest.root.exit (omega arith) q)
       where
         go : Executes nest.root (code_of G C) s m ⊎ HasLeft (nest_of G nest.root nest.inner) (code_of G C) s m → Stays nest.root s n
-        go (inl e) = record { at = m; number = t; leaves = record { exit = q; out = (told m e q holds).leaves t }; first = below }
+        go (inl e) = record { at = m; number = t; leaves = record { exit = q; out = (told m (omega arith) e q holds).leaves t }; first = below }
         go (inr h) =
             let b = h.before in
             let r = turn_rises nest.root s h.visit m (omega arith) in

@@ -1,5 +1,5 @@
 -- What the trips of the loops of a nest say of their turns in a run.
-use Rattle.std.specs.Prelude.{ℕ, suc, ◌≡◌, ◌<◌, true, false, List, Option, Some}
+use Rattle.std.specs.Prelude.{ℕ, suc, ◌≡◌, ◌<◌, ◌≤◌, true, false, List, Option, Some}
 use Rattle.rv64_decode.specs.Range.{AreWords, AreBytes}
 use Rattle.rv64_decode.specs.declared.outcome.Next.TheVariants.{At}
 use Rattle.linear_forms.specs.Forms.{LinearForm}
@@ -34,7 +34,7 @@ pub record IsAtExit (N : Nest) (B : LoopCode) (at : ℕ → ℕ → Option Linea
   pub holds : HoldsAt N B.cells at s m
 
 -- after visit m, in turn t of a loop, the run stays in the loop where t is below n, and leaves it where t is n
-pub record StaysBelow (l : Level) (s : State) (m t n : ℕ) : Type 0 where
+pub record StaysUntil (l : Level) (s : State) (m t n : ℕ) : Type 0 where
   pub stays : t < n → goes_at (has l.body) (run s (suc m)).next ≡ true
   pub leaves : t ≡ n → goes_at (has l.body) (run s (suc m)).next ≡ false
 
@@ -43,22 +43,23 @@ abbrev pub TurnLaw : Type 0
 TurnLaw = (G : Graph) (levels : List Level) (nest : AreNest G levels) → AreProgramWords G → (C : CellMap) →
     let N = nest_of G nest.root nest.inner in
     (at : ℕ → ℕ → Option LinearForm) (s : State) (m n : ℕ) → Tells G C at N.root s n
-    → IsAtExit N (code_of G C) at N.root s m → StaysBelow N.root s m (turn N.root s m) n
+    → IsAtExit N (code_of G C) at N.root s m → StaysUntil N.root s m (turn N.root s m) n
 
 -- and at each visit of an inner loop's, by the passes of that run of the loop
 abbrev pub PassLaw : Type 0
 PassLaw = (G : Graph) (levels : List Level) (nest : AreNest G levels) → AreProgramWords G → (C : CellMap) →
     let N = nest_of G nest.root nest.inner in
     (at : ℕ → ℕ → Option LinearForm) (l : Level) (s : State) (m n : ℕ) → In N.inner l → Tells G C at l s n
-    → IsAtExit N (code_of G C) at l s m → StaysBelow l s m (pass l (walk s) m) n
+    → IsAtExit N (code_of G C) at l s m → StaysUntil l s m (pass l (walk s) m) n
 
--- a run from the root's header, of registers that are words and bytes that are bytes, executes at each word of the
--- root what the word stands for
-pub record Follows (N : Nest) (B : LoopCode) (s : State) : Type 0 where
+-- a run from the root's header, of registers that are words and bytes that are bytes, executes up to turn n at each
+-- word of the root what the word stands for
+pub record Follows (N : Nest) (B : LoopCode) (s : State) (n : ℕ) : Type 0 where
   pub start : s.next ≡ At N.root.header
   pub registers : AreWords s.regs
   pub bytes : AreBytes s.memory
-  pub words : (m : ℕ) → goes_at (has N.root.body) (run s m).next ≡ true → instr (run s m) ≡ B.instr (walk s m)
+  pub words : (m : ℕ) → turn N.root s m ≤ n → goes_at (has N.root.body) (run s m).next ≡ true
+      → instr (run s m) ≡ B.instr (walk s m)
 
 -- no turn below n leaves the root, and n is the number of its stays where turn n comes to the exit branch and the
 -- forms hold there
@@ -72,5 +73,5 @@ pub record IsNumberOfStays (N : Nest) (C : CellMap) (at : ℕ → ℕ → Option
 abbrev pub StaysLaw : Type 0
 StaysLaw = (G : Graph) (levels : List Level) (nest : AreNest G levels) → AreProgramWords G → (C : CellMap) →
     let N = nest_of G nest.root nest.inner in
-    (at : ℕ → ℕ → Option LinearForm) (s : State) (n : ℕ) → Follows N (code_of G C) s → Tells G C at N.root s n
+    (at : ℕ → ℕ → Option LinearForm) (s : State) (n : ℕ) → Follows N (code_of G C) s n → Tells G C at N.root s n
     → FormsHold N C at s n → IsNumberOfStays N C at s n

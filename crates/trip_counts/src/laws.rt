@@ -7,7 +7,8 @@ ghost use Rattle.trip_counts.specs.TripLaws.{TurnLaw, PassLaw, StaysLaw};
 ghost use Rattle.trip_counts.specs.Worked.{counter, bound, inner_counter, trip_of_branch, IsTrip, IsTripOfDifference};
 
 /// Where the forms hold at the exit branch of a loop, the trip of the loop tells which of its turns stay in it,
-/// and which one leaves it; and where they hold in the turns of the root below that number, none of these leaves.
+/// and which one leaves it; and where they hold in the turns of the root below that number, none of these leaves, and
+/// it is the number of turns that stay where the branch is reached in it.
 pub fn trips_tell_stays()
     ensures turns { TurnLaw }
     ensures passes { PassLaw }

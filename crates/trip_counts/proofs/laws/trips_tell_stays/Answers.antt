@@ -9,4 +9,4 @@ pub returns-clause-passes : goal.returns-clause-passes
 returns-clause-passes c = pass_told
 
 pub returns-clause-stays : goal.returns-clause-stays
-returns-clause-stays c = λ G ls nest words C at s n follows tells forms. stays_told G ls nest words C s follows at n tells forms
+returns-clause-stays c = λ G ls nest words C at s n follows tells forms. stays_told G ls nest words C s n follows at tells forms
