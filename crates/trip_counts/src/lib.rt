@@ -4,6 +4,8 @@
 mod forms;
 pub mod laws;
 mod relations;
+#[cfg(test)]
+mod tests;
 mod trips;
 
 pub use trips::{NoTrip, trip};

@@ -90,7 +90,7 @@ fn trip_between(
 }
 
 /// The trip of a branch with this relation, out of the forms of its operands.
-fn trip_read(
+pub fn trip_read(
     depth: u32,
     relation: Option<Relation>,
     signed: bool,
