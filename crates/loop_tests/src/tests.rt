@@ -1,6 +1,7 @@
 ghost use Rattle.std.specs.Prelude.{◌≡◌, ◌<◌, ◌^◌, [], None, length, slice_index_or, IfOk, IfSome, IsTrue};
 ghost use Rattle.loop_data.specs.declared.shape.LoopShape.{LoopShape as Shape};
 ghost use Rattle.loop_data.specs.LoopWords.{AreNest};
+ghost use Rattle.loop_data.specs.Lookups.{HasNoCells};
 ghost use Rattle.loop_data.specs.Paths.{IsInOrder};
 ghost use Rattle.loop_shapes.specs.Places.{count_of};
 
@@ -16,6 +17,7 @@ use std::alloc::{AllocError, Global};
 mod class_rows;
 mod form_rows;
 mod samples;
+mod trip_rows;
 mod value_rows;
 
 use samples::Program;
@@ -29,8 +31,7 @@ struct Found {
 
 // No cells.
 fn no_cells() -> Cells
-    ensures list { result.list.items ≡ [] }
-    ensures uses { result.uses.items ≡ [] }
+    ensures { HasNoCells result }
 {
     Cells {
         list: ArrayVec::new(),

@@ -1,5 +1,8 @@
+ghost use Rattle.loop_data.specs.LoopWords.{AreNest};
+ghost use Rattle.loop_data.specs.Paths.{IsInOrder};
+
 use crate::tests::samples::Program;
-use crate::tests::{nest_of, no_cells};
+use crate::tests::{Found, nest_of, no_cells};
 use induction::classes;
 use linear_forms::{Form, Loc};
 use loop_data::{Duty, Equations, Point};
@@ -8,7 +11,7 @@ use std::alloc::{AllocError, Global};
 use std::process::Abort;
 
 // A form by its constant, its terms and its strides.
-struct Shown(i64, &'static [(Loc, i64)], [i64; 3]);
+pub struct Shown(pub i64, pub &'static [(Loc, i64)], pub [i64; 3]);
 
 // A duty of a word.
 struct Owed {
@@ -205,7 +208,7 @@ static CASES: [Case; 6] = [
     },
 ];
 
-fn is_form(form: &Form, shown: &Shown) -> bool {
+pub fn is_form(form: &Form, shown: &Shown) -> bool {
     form.constant == shown.0 && form.terms.as_slice() == shown.1 && form.turns == shown.2
 }
 
@@ -268,16 +271,24 @@ fn are_owed(duties: &[Duty], owed: &[Owed]) -> bool {
     true
 }
 
-fn equations_of(alloc: Global, case: &Case) -> Result<Option<Equations>, AllocError> {
-    let Some(found) = nest_of(alloc, &case.program, case.header)? else {
-        return Ok(None);
-    };
+// The equations of a nest, where no location of it is carried.
+pub fn equations_in(alloc: Global, found: &Found) -> Result<Option<Equations>, AllocError>
+    requires graph { IsInOrder found.now.graph }
+    requires nest { AreNest found.now.graph found.now.shape.levels }
+{
     let cells = no_cells();
     let Ok(classes) = classes(alloc, &found.shape, &found.graph, &cells) else {
         return Ok(None);
     };
     let equations = solve(alloc, &found.shape, &found.graph, &cells, &classes)?;
     Ok(Some(equations))
+}
+
+fn equations_of(alloc: Global, case: &Case) -> Result<Option<Equations>, AllocError> {
+    match nest_of(alloc, &case.program, case.header)? {
+        Some(found) => equations_in(alloc, &found),
+        None => Ok(None),
+    }
 }
 
 fn is_right(alloc: Global, case: &Case) -> Result<bool, AllocError> {
