@@ -14,6 +14,7 @@ use loop_shapes::laws::nests;
 use loop_shapes::loops;
 use std::alloc::{AllocError, Global};
 
+mod access_rows;
 mod class_rows;
 mod form_rows;
 mod samples;
