@@ -1,0 +1,5 @@
+pub mod Members
+pub mod OneCell
+pub mod FirstUses
+pub mod UseLists
+pub mod Points

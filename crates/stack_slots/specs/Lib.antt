@@ -1,0 +1,4 @@
+pub mod Touches
+pub mod CellRules
+pub mod Results
+pub mod Uses
