@@ -1,5 +1,5 @@
 -- The address of an access is the value of its form.
-use Rattle.std.proofs.Common.{◌≡◌, ℕ, ◌+◌, ◌<◌, Bool, true, false, List, Option, Some, None, refl, ap, sym, ◌∙◌, subst, arith, if◌then◌else◌, ℤ}
+use Rattle.std.proofs.Common.{◌≡◌, ◌≢◌, map, ℕ, ◌+◌, ◌<◌, Bool, true, false, List, Option, Some, None, refl, ap, sym, ◌∙◌, subst, arith, if◌then◌else◌, ℤ}
 use Rattle.std.specs.List.{Contains}
 use Rattle.std.specs.Int.{w64, cast_unsigned}
 use Rattle.rv64_decode.specs.Form.{IsSigned}
@@ -18,7 +18,8 @@ use Rattle.loop_data.specs.Nests.{Nest, nest_of}
 use Rattle.loop_data.specs.LoopWords.{AreNest}
 use Rattle.loop_data.specs.Runs.{State, run, walk, instr, asks_of}
 use Rattle.loop_data.specs.Locations.{CellMap}
-use Rattle.loop_data.specs.LoopCode.{code_of}
+use Rattle.loop_data.specs.LoopCode.{LoopCode, code_of}
+use Rattle.rv64_decode.specs.Ask.{Nothing}
 use Rattle.loop_data.specs.FormRows.{form_read, form_sum}
 use Rattle.loop_data.specs.Holds.{entry_of, times, HoldsAt}
 use Rattle.loop_data.specs.Executing.{AreProgramWords}
@@ -88,3 +89,31 @@ address_law G levels nest words C at list a s m are c here word holds =
     subst (λ i. AsksFor (asks_of i (run s m).regs) (value a.form (entry_of C s) (times (nest_of G nest.root nest.inner) s m)) a.width a.store) (sym e)
     (subst (λ b. AsksFor (asks_of (Some w.does) (run s m).regs) (value a.form (entry_of C s) (times (nest_of G nest.root nest.inner) s m)) a.width b) (sym own.store)
     (subst (λ z. AsksFor (asks_of (Some w.does) (run s m).regs) (value a.form (entry_of C s) (times (nest_of G nest.root nest.inner) s m)) z own.motion.store) (sym own.width) r))
+
+-- a word with an access uses no cell
+unused : (k : Option ℕ) (o : Option Motion) (m : Motion) → unless_used k o ≡ Some m → k ≡ None
+unused None o m e = refl
+unused (Some k) o m e = absurd (cc)
+
+pub cell_law : (levels : List Level) (body : List ℕ) (B : LoopCode) (at : ℕ → ℕ → Option LinearForm) (list : List Access) (a : Access) → AreAccesses levels body B at list → Contains list a → B.cells.uses a.at ≡ None
+cell_law levels body B at list a are c = let own = (are.each a c).1 in unused (B.cells.uses a.at) (motion_of (B.instr a.at)) own.motion own.moves
+
+-- what asks memory for anything is a load or a store
+moves_some : (i : Option Instr) (regs : List ℕ) → asks_of i regs ≢ Nothing → (m : Motion) × (motion_of i ≡ Some m)
+moves_some None regs ne = absurd (ne refl)
+moves_some (Some (Load op rd rs1 imm)) regs ne = (record { base = rs1; offset = imm; width = load_width op; store = false }, refl)
+moves_some (Some (Store op rs1 rs2 imm)) regs ne = (record { base = rs1; offset = imm; width = store_width op; store = true }, refl)
+moves_some (Some (Alu op rd rs1 rs2)) regs ne = absurd (ne refl)
+moves_some (Some (AluImm op rd rs1 imm)) regs ne = absurd (ne refl)
+moves_some (Some (Upper op rd imm)) regs ne = absurd (ne refl)
+moves_some (Some (Branch op rs1 rs2 imm)) regs ne = absurd (ne refl)
+moves_some (Some (Jal rd imm)) regs ne = absurd (ne refl)
+moves_some (Some (Jalr rd rs1 imm)) regs ne = absurd (ne refl)
+moves_some (Some (Fence rd rs1 imm)) regs ne = absurd (ne refl)
+moves_some (Some Ecall) regs ne = absurd (ne refl)
+moves_some (Some Ebreak) regs ne = absurd (ne refl)
+
+pub each_law : (levels : List Level) (body : List ℕ) (B : LoopCode) (at : ℕ → ℕ → Option LinearForm) (list : List Access) (u : ℕ) (regs : List ℕ) → AreAccesses levels body B at list → Contains body u → B.cells.uses u ≡ None → asks_of (B.instr u) regs ≢ Nothing → Contains (map (λ (a : Access). a.at) list) u
+each_law levels body B at list u regs are c e ne =
+    let m = moves_some (B.instr u) regs ne in
+    are.every u m.0 c (ap (λ k. unless_used k (motion_of (B.instr u))) e ∙ m.1)

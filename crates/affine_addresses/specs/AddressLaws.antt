@@ -1,5 +1,5 @@
 -- The addresses of accesses in a run are the values of their forms.
-use Rattle.std.specs.Prelude.{ℕ, ◌≡◌, Bool, true, false, List, Option}
+use Rattle.std.specs.Prelude.{ℕ, ◌≡◌, ◌≢◌, Bool, true, false, List, map, Option, None}
 use Rattle.std.specs.List.{Contains}
 use Rattle.rv64_decode.specs.Ask.{Ask, Nothing, Loads, Stores}
 use Rattle.rv64_decode.specs.declared.memory.Width.{Width}
@@ -11,7 +11,7 @@ use Rattle.loop_data.specs.Nests.{nest_of}
 use Rattle.loop_data.specs.LoopWords.{AreNest}
 use Rattle.loop_data.specs.Runs.{State, run, walk, instr, asks_of}
 use Rattle.loop_data.specs.Locations.{CellMap}
-use Rattle.loop_data.specs.LoopCode.{code_of}
+use Rattle.loop_data.specs.LoopCode.{LoopCode, code_of}
 use Rattle.loop_data.specs.Holds.{entry_of, times, HoldsAt}
 use Rattle.loop_data.specs.Executing.{AreProgramWords}
 use Rattle.loop_data.specs.Accesses.{AreAccesses}
@@ -33,3 +33,14 @@ AddressLaw = (G : Graph) (levels : List Level) (nest : AreNest G levels) → Are
     → instr (run s m) ≡ B.instr (walk s m) → HoldsAt N C at s m
     → AsksFor (asks_of (instr (run s m)) (run s m).regs) (value a.form (entry_of C s) (times N s m)) a.width
     a.store
+
+-- no access that is listed is one of a cell
+abbrev pub CellLaw : Type 0
+CellLaw = (levels : List Level) (body : List ℕ) (B : LoopCode) (at : ℕ → ℕ → Option LinearForm) (list : List Access)
+    (a : Access) → AreAccesses levels body B at list → Contains list a → B.cells.uses a.at ≡ None
+
+-- and each word that accesses no cell and asks memory for anything has one
+abbrev pub EachLaw : Type 0
+EachLaw = (levels : List Level) (body : List ℕ) (B : LoopCode) (at : ℕ → ℕ → Option LinearForm) (list : List Access)
+    (u : ℕ) (regs : List ℕ) → AreAccesses levels body B at list → Contains body u → B.cells.uses u ≡ None
+    → asks_of (B.instr u) regs ≢ Nothing → Contains (map (λ (a : Access). a.at) list) u

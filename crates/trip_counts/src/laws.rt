@@ -38,6 +38,18 @@ pub fn worked_trips()
         (pos 8) (pos 8) }
     ensures not_the_same { IsTripOfDifference (trip_of_branch 0 Beq false (counter (negsuc 7)) bound)
         (pos 0) (negsuc 7) }
+    ensures at_least_unsigned { IsTrip (trip_of_branch 0 Bgeu true (counter (negsuc 0)) bound) AtLeast false
+        (counter (negsuc 0)) (negsuc 0) }
+    ensures bound_with_offset { trip_of_branch 0 Blt true (counter (pos 1)) (plus_constant bound (negsuc 0))
+        ≡ Some (record {
+          relation = Less;
+          signed = true;
+          start = counter (pos 1);
+          bound = plus_constant bound (negsuc 0);
+          step = pos 1;
+        }) }
+    ensures innermost { IsTrip (trip_of_branch 2 Blt true (record (counter (pos 0)) { third = pos 1 }) bound) Less true
+        (record (counter (pos 0)) { third = pos 1 }) (pos 1) }
     ensures inner { IsTrip (trip_of_branch 1 Blt true (inner_counter (pos 0) (pos 1)) bound) Less true
         (inner_counter (pos 0) (pos 1)) (pos 1) }
     ensures two_strides { trip_of_branch 1 Blt true (inner_counter (pos 8) (pos 1)) bound ≡ None }

@@ -29,7 +29,7 @@ struct Case {
     accesses: Result<&'static [Moved], u64>,
 }
 
-static CASES: [Case; 5] = [
+static CASES: [Case; 6] = [
     Case {
         name: "arrays that are added",
         program: Program::Adds,
@@ -115,6 +115,18 @@ static CASES: [Case; 5] = [
             0x0007_b703, // ld a4,0(a5)
             0x0085_8593, // addi a1,a1,8
             0xfed5_9ae3, // bne a1,a3,-12
+        ]),
+        header: 0x10078,
+        accesses: Err(0x1007c),
+    },
+    Case {
+        name: "two addresses that were loaded",
+        program: Program::Code(&[
+            0x0005_b783, // ld a5,0(a1)
+            0x0007_b703, // ld a4,0(a5)
+            0x00e7_b423, // sd a4,8(a5)
+            0x0085_8593, // addi a1,a1,8
+            0xfed5_98e3, // bne a1,a3,-16
         ]),
         header: 0x10078,
         accesses: Err(0x1007c),
