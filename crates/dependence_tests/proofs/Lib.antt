@@ -1,0 +1,9 @@
+pub mod SameTerms
+pub mod Divisors
+pub mod Sizes
+pub mod Steps
+pub mod Meeting
+pub mod Failing
+pub mod Distances
+pub mod Separating
+pub mod Places
