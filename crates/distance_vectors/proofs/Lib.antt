@@ -1,0 +1,4 @@
+mod Sums
+mod Firsts
+mod Meetings
+mod Orders
