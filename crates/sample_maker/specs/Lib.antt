@@ -1,0 +1,4 @@
+pub mod Assembly
+pub mod Meanings
+pub mod Programs
+pub mod Sample
