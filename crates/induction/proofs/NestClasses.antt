@@ -25,7 +25,7 @@ use Rattle.loop_data.proofs.FactUnique.{some_writes_it, none_writes_it}
 use Rattle.loop_data.proofs.FlowEdges.{listed_in, levels_ordered}
 use Rattle.loop_data.proofs.FactsExist.{facts_exist}
 use Rattle.induction.specs.declared.words.Words.{Words}
-use Rattle.induction.specs.Words.{AreWords, IsLoopOf}
+use Rattle.induction.specs.Words.{AreLoopWords, IsLoopOf}
 use Rattle.induction.specs.Rows.{HasClass, HasInnerClass, IsMoving, TellsRow, TellsInnerRow, IsLeastAt}
 use Rattle.induction.specs.Results.{IsRootRow, IsInnerRow, AreInnerRows, IsLeastCarried}
 use Rattle.loop_data.specs.Results.{IsNestOf, AreSmall, class_in, class_at, AreClasses}
@@ -38,7 +38,7 @@ pub record IsAt (G : Graph) (ls : List Level) (i : ℕ) (l : Level) (w : Words) 
   pub nest : AreNest G ls
   pub within : i < length ls
   pub here : l ≡ get_or ls i l
-  pub words : (m : Level) → get_or ls i m ≡ m → AreWords G ls m w
+  pub words : (m : Level) → get_or ls i m ≡ m → AreLoopWords G ls m w
 
 loop_of : (G : Graph) (ls : List Level) (i : ℕ) (l : Level) (w : Words) → IsAt G ls i l w → (N : Nest) (V : ℕ → ℕ → Option Fact) → IsNestOf G ls N → AreFacts N (code_of G no_cells) l V → IsLoopOf G ls N l V w
 loop_of G ls i l w at N V of facts =
@@ -210,7 +210,7 @@ pub few_levels : (G : Graph) (ls : List Level) → AreNest G ls → (length ls �
 few_levels G ls nest = let n : length ls ≡ suc (length nest.inner) = ap (λ (xs : List Level). length xs) nest.are in let f = nest.few in (omega arith, omega arith)
 
 -- the loop at a place among the levels that a slice has
-pub is_at : (G : Graph) (ls xs : List Level) (i : ℕ) (l : Level) (w : Words) → AreNest G ls → i < length ls → xs ≡ ls → l ≡ get_or xs i l → ((m : Level) → get_or ls i m ≡ m → AreWords G ls m w) → IsAt G ls i l w
+pub is_at : (G : Graph) (ls xs : List Level) (i : ℕ) (l : Level) (w : Words) → AreNest G ls → i < length ls → xs ≡ ls → l ≡ get_or xs i l → ((m : Level) → get_or ls i m ≡ m → AreLoopWords G ls m w) → IsAt G ls i l w
 is_at G ls xs i l w nest within e at words = record { nest = nest; within = within; here = at ∙ ap (λ (ys : List Level). get_or ys i l) e; words = words }
 
 pub levels_rise : (G : Graph) (ls xs : List Level) → AreNest G ls → xs ≡ ls → All (λ (l : Level). IsStrictlyIncreasing l.body) xs

@@ -19,7 +19,7 @@ use Rattle.loop_data.proofs.FlowEdges.{listed_in}
 use Rattle.loop_data.proofs.ValuePlaces.{cells_none}
 use Rattle.induction.specs.declared.words.Words.{Words}
 use Rattle.induction.specs.Masks.{has_bit, bit_after, AreMasks}
-use Rattle.induction.specs.Words.{AreWords}
+use Rattle.induction.specs.Words.{AreLoopWords}
 
 pub rows_within : (G : Graph) (ls : List Level) (body : List ℕ) (f : Flow) → IsFlow G ls body f → AreRowsWithin (rows f.sources.items)
 rows_within G ls body f flow j k c =
@@ -39,7 +39,7 @@ same_level ls level l m within e f = e ∙ get_or_default ls level l m within �
 pub words_are : (G : Graph) (ls : List Level) (level : ℕ) (l : Level) (c : Cells) (w : Words) → c.list.items ≡ [] → c.uses.items ≡ [] → get_or ls level l ≡ l → IsFlow G ls l.body w.flow → AreFactsOf G ls (cell_map c) level w.points.items
     → AreMasks l.header l.body w.flow.instrs.items (rows w.flow.sources.items) w.masks.items
     → ((p : ℕ) → p < length l.body → get_or l.body p 0 ≡ l.back → (r : ℕ) → r < 32 → has_bit w.always r ≡ bit_after w.flow.instrs.items w.masks.items p r)
-    → AreWords G ls l w
+    → AreLoopWords G ls l w
 words_are G ls level l c w none unused e flow facts masks always = record {
   sized = record {
     instrs = ap length flow.instrs ∙ length-map l.body (instr_among G.words);

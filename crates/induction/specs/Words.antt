@@ -26,7 +26,7 @@ pub record AreSized (body : List ℕ) (w : Words) : Type 0 where
   pub masks : length w.masks.items ≡ length body
 
 -- the words of a loop of a nest, with what is known at them
-pub record AreWords (G : Graph) (levels : List Level) (l : Level) (w : Words) : Type 0 where
+pub record AreLoopWords (G : Graph) (levels : List Level) (l : Level) (w : Words) : Type 0 where
   pub sized : AreSized l.body w
   pub flow : IsFlow G levels l.body w.flow
   pub addresses : map (λ (p : Values). p.at) w.points.items ≡ l.body
@@ -35,8 +35,8 @@ pub record AreWords (G : Graph) (levels : List Level) (l : Level) (w : Words) : 
   pub always : IsMaskPast w.flow.instrs.items w.masks.items l.body l.back w.always
 
 -- those of the loop at a place among the levels
-abbrev pub AreWordsAt : Graph → List Level → ℕ → Words → Type 0
-AreWordsAt G levels level w = (l : Level) → slice_index_or levels level l ≡ l → AreWords G levels l w
+abbrev pub AreLoopWordsAt : Graph → List Level → ℕ → Words → Type 0
+AreLoopWordsAt G levels level w = (l : Level) → slice_index_or levels level l ≡ l → AreLoopWords G levels l w
 
 -- by how much a location moves on, if this is the fact that is written to it
 abbrev pub step_in : Option Fact → ℕ → Option ℤ
@@ -79,5 +79,5 @@ pub record IsLoopOf (G : Graph) (levels : List Level) (N : Nest) (l : Level) (V 
   pub nest : AreNest G levels
   pub of : IsNestOf G levels N
   pub among : Among N l
-  pub words : AreWords G levels l w
+  pub words : AreLoopWords G levels l w
   pub facts : AreFacts N (code_of G no_cells) l V

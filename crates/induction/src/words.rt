@@ -5,7 +5,7 @@ ghost use Rattle.loop_data.specs.LoopWords.{AreNest};
 ghost use Rattle.loop_data.specs.Lookups.{HasNoCells};
 ghost use Rattle.loop_data.specs.Paths.{IsInOrder};
 ghost use Rattle.induction.specs.Masks.{IsMaskPast};
-ghost use Rattle.induction.specs.Words.{AreWordsAt, IsPrivateAt, IsNotPrivateAt};
+ghost use Rattle.induction.specs.Words.{AreLoopWordsAt, IsPrivateAt, IsNotPrivateAt};
 
 use crate::masks::{contains, masks_of, with};
 use crate::writers::reads_first;
@@ -52,7 +52,7 @@ pub fn words_of(
     requires nest { AreNest graph.now shape.now.levels }
     requires within { level < length shape.now.levels }
     requires no_cells { HasNoCells cells.now }
-    ensures { IfOk result (AreWordsAt graph.now shape.now.levels level) }
+    ensures { IfOk result (AreLoopWordsAt graph.now shape.now.levels level) }
 {
     let levels = shape.levels.as_slice();
     let flow = loop_flow(alloc, graph, levels, level)?;

@@ -5,7 +5,7 @@ use Rattle.loop_data.specs.declared.shape.Level.{Level}
 use Rattle.loop_data.specs.Flows.{rows, IsFlow}
 use Rattle.induction.specs.declared.words.Words.{Words}
 use Rattle.induction.specs.Masks.{has_bit, bit_after, AreMasks}
-use Rattle.induction.specs.Words.{AreWords}
+use Rattle.induction.specs.Words.{AreLoopWords}
 use Rattle.induction.proofs.WordLists.{rows_within, rises_at, same_level, words_are}
 use Rattle.induction.proofs.words.words_of.Goals as goal
 
@@ -35,5 +35,5 @@ returns c m f =
     c.mask_past-always.ensures p (subst (λ (xs : List ℕ). p < length xs) (sym b) lp) (ap (λ (xs : List ℕ). get_or xs p 0) b ∙ q) r lr
     ∙ ap (λ (xs : List (Option Instr)). bit_after xs c.as_slice-2.result.now p r) c.as_slice.ensures.value
     ∙ ap (λ (xs : List ℕ). bit_after w.flow.instrs.items xs p r) c.as_slice-2.ensures.value in
-    subst (λ (x : Level). AreWords c.args.graph.now c.args.shape.now.levels x w) (same_level c.args.shape.now.levels c.args.level l m c.requires.within at f)
+    subst (λ (x : Level). AreLoopWords c.args.graph.now c.args.shape.now.levels x w) (same_level c.args.shape.now.levels c.args.level l m c.requires.within at f)
     (words_are c.args.graph.now c.args.shape.now.levels c.args.level l c.args.cells.now w c.requires.no_cells.cells c.requires.no_cells.uses (sym at) flow c.in_ok-points.ensures masks always)
