@@ -38,7 +38,9 @@ number_at (suc n) m addr = byte_at m addr + 256 * number_at n m (suc addr)
 abbrev pub with_byte : List Area → ℕ → ℕ → List Area
 with_byte [] addr b = []
 with_byte (a ∷ rest) addr b =
-    if holds a addr then record a { bytes = slice_set a.bytes (addr - a.low) b } ∷ rest else a ∷ with_byte rest addr b
+    if holds a addr
+    then record a { bytes = slice_set a.bytes (addr - a.low) b } ∷ rest
+    else a ∷ with_byte rest addr b
 
 -- the memory with the n bytes at the address set to the low bytes of the value, the lowest first
 abbrev pub with_number : ℕ → List Area → ℕ → ℕ → List Area

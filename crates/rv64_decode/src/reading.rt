@@ -1,5 +1,5 @@
-ghost use Rattle.std.specs.Prelude.{◌≡◌, ◌↔◌, ◌+◌, ◌-◌, ◌*◌, ◌/◌, ◌%◌, ◌<◌, ◌≤◌, ◌^◌, Some, IfSome};
-ghost use Rattle.rv64_decode.specs.Fields.{signed_by, rd_of, rs1_of, rs2_of, imm_i, imm_s, imm_b, imm_u, imm_j};
+ghost use Rattle.std.specs.Prelude.{◌≡◌, ◌≢◌, ◌↔◌, ◌+◌, ◌-◌, ◌*◌, ◌/◌, ◌%◌, ◌<◌, ◌≤◌, ◌^◌, Some, IfSome};
+ghost use Rattle.rv64_decode.specs.Fields.{opcode, signed_by, rd_of, rs1_of, rs2_of, imm_i, imm_s, imm_b, imm_u, imm_j};
 ghost use Rattle.rv64_decode.specs.Operations.{alu_by, alu_w_by, imm_by, imm_w_by, load_by, store_by, branch_by};
 ghost use Rattle.rv64_decode.specs.Table.{Means, decoded, imm_for};
 ghost use Rattle.rv64_decode.specs.Form.{InForm};
@@ -197,11 +197,149 @@ fn immediate(op: ImmOp, word: u32) -> i32
     }
 }
 
-/// The instruction that a word stands for; `None` for a word outside RV64IM (RISC-V unprivileged
-/// manual, "RV32/64G Instruction Set Listings": RV32I, RV64I, RV32M and RV64M).
-#[tactic(auto, using(crate::proofs::Rows::alu33_forth, crate::proofs::Rows::alu33_back, crate::proofs::Rows::alu3b_forth, crate::proofs::Rows::alu3b_back, crate::proofs::Rows::imm13_forth, crate::proofs::Rows::imm13_back, crate::proofs::Rows::imm1b_forth, crate::proofs::Rows::imm1b_back))]
+fn upper(op: UpperOp, word: u32) -> Instr
+    ensures { result ≡ Instr.Upper op (rd_of word) (imm_u word) }
+{
+    Instr::Upper {
+        op,
+        rd: rd(word),
+        imm: u_immediate(word),
+    }
+}
+
+// An operation on two registers, of 64 bits.
+#[tactic(auto, using(crate::proofs::Rows::alu33_forth, crate::proofs::Rows::alu33_back))]
 #[inline(always)]
-pub fn decode(word: u32) -> Option<Instr>
+fn register_form(word: u32) -> Option<Instr>
+    requires { opcode word ≡ 0x33 }
+    ensures table { (i : Instr) → (result ≡ Some i) ↔ Means word i }
+    ensures value { result ≡ decoded word }
+    ensures means { IfSome result (λ i. Means word i) }
+    ensures form { IfSome result InForm }
+{
+    let op = alu_op((word >> 12) % 8, word >> 25)?;
+    Some(Instr::Alu {
+        op,
+        rd: rd(word),
+        rs1: rs1(word),
+        rs2: rs2(word),
+    })
+}
+
+// The same, of 32 bits.
+#[tactic(auto, using(crate::proofs::Rows::alu3b_forth, crate::proofs::Rows::alu3b_back))]
+#[inline(always)]
+fn short_register_form(word: u32) -> Option<Instr>
+    requires { opcode word ≡ 0x3B }
+    ensures table { (i : Instr) → (result ≡ Some i) ↔ Means word i }
+    ensures value { result ≡ decoded word }
+    ensures means { IfSome result (λ i. Means word i) }
+    ensures form { IfSome result InForm }
+{
+    let op = alu_w_op((word >> 12) % 8, word >> 25)?;
+    Some(Instr::Alu {
+        op,
+        rd: rd(word),
+        rs1: rs1(word),
+        rs2: rs2(word),
+    })
+}
+
+// An operation on a register and an immediate, of 64 bits.
+#[tactic(auto, using(crate::proofs::Rows::imm13_forth, crate::proofs::Rows::imm13_back))]
+#[inline(always)]
+fn immediate_form(word: u32) -> Option<Instr>
+    requires { opcode word ≡ 0x13 }
+    ensures table { (i : Instr) → (result ≡ Some i) ↔ Means word i }
+    ensures value { result ≡ decoded word }
+    ensures means { IfSome result (λ i. Means word i) }
+    ensures form { IfSome result InForm }
+{
+    let op = imm_op((word >> 12) % 8, word >> 26)?;
+    Some(Instr::AluImm {
+        op,
+        rd: rd(word),
+        rs1: rs1(word),
+        imm: immediate(op, word),
+    })
+}
+
+// The same, of 32 bits.
+#[tactic(auto, using(crate::proofs::Rows::imm1b_forth, crate::proofs::Rows::imm1b_back))]
+#[inline(always)]
+fn short_immediate_form(word: u32) -> Option<Instr>
+    requires { opcode word ≡ 0x1B }
+    ensures table { (i : Instr) → (result ≡ Some i) ↔ Means word i }
+    ensures value { result ≡ decoded word }
+    ensures means { IfSome result (λ i. Means word i) }
+    ensures form { IfSome result InForm }
+{
+    let op = imm_w_op((word >> 12) % 8, word >> 25)?;
+    Some(Instr::AluImm {
+        op,
+        rd: rd(word),
+        rs1: rs1(word),
+        imm: immediate(op, word),
+    })
+}
+
+#[inline(always)]
+fn load_form(word: u32) -> Option<Instr>
+    requires { opcode word ≡ 0x03 }
+    ensures table { (i : Instr) → (result ≡ Some i) ↔ Means word i }
+    ensures value { result ≡ decoded word }
+    ensures means { IfSome result (λ i. Means word i) }
+    ensures form { IfSome result InForm }
+{
+    let op = load_op((word >> 12) % 8)?;
+    Some(Instr::Load {
+        op,
+        rd: rd(word),
+        rs1: rs1(word),
+        imm: i_immediate(word),
+    })
+}
+
+#[inline(always)]
+fn store_form(word: u32) -> Option<Instr>
+    requires { opcode word ≡ 0x23 }
+    ensures table { (i : Instr) → (result ≡ Some i) ↔ Means word i }
+    ensures value { result ≡ decoded word }
+    ensures means { IfSome result (λ i. Means word i) }
+    ensures form { IfSome result InForm }
+{
+    let op = store_op((word >> 12) % 8)?;
+    Some(Instr::Store {
+        op,
+        rs1: rs1(word),
+        rs2: rs2(word),
+        imm: s_immediate(word),
+    })
+}
+
+#[inline(always)]
+fn branch_form(word: u32) -> Option<Instr>
+    requires { opcode word ≡ 0x63 }
+    ensures table { (i : Instr) → (result ≡ Some i) ↔ Means word i }
+    ensures value { result ≡ decoded word }
+    ensures means { IfSome result (λ i. Means word i) }
+    ensures form { IfSome result InForm }
+{
+    let op = branch_op((word >> 12) % 8)?;
+    Some(Instr::Branch {
+        op,
+        rs1: rs1(word),
+        rs2: rs2(word),
+        imm: b_immediate(word),
+    })
+}
+
+// What stands without an operation of its own: an upper immediate, a jump, a fence or a system call.
+#[inline(always)]
+fn other_form(word: u32) -> Option<Instr>
+    requires registers { (opcode word ≢ 0x33) × (opcode word ≢ 0x3B) }
+    requires immediates { (opcode word ≢ 0x13) × (opcode word ≢ 0x1B) }
+    requires accesses { (opcode word ≢ 0x03) × (opcode word ≢ 0x23) × (opcode word ≢ 0x63) }
     ensures table { (i : Instr) → (result ≡ Some i) ↔ Means word i }
     ensures value { result ≡ decoded word }
     ensures means { IfSome result (λ i. Means word i) }
@@ -209,79 +347,8 @@ pub fn decode(word: u32) -> Option<Instr>
 {
     let three = (word >> 12) % 8;
     match word % 128 {
-        0x33 => match alu_op(three, word >> 25) {
-            Some(op) => Some(Instr::Alu {
-                op,
-                rd: rd(word),
-                rs1: rs1(word),
-                rs2: rs2(word),
-            }),
-            None => None,
-        },
-        0x3B => match alu_w_op(three, word >> 25) {
-            Some(op) => Some(Instr::Alu {
-                op,
-                rd: rd(word),
-                rs1: rs1(word),
-                rs2: rs2(word),
-            }),
-            None => None,
-        },
-        0x13 => match imm_op(three, word >> 26) {
-            Some(op) => Some(Instr::AluImm {
-                op,
-                rd: rd(word),
-                rs1: rs1(word),
-                imm: immediate(op, word),
-            }),
-            None => None,
-        },
-        0x1B => match imm_w_op(three, word >> 25) {
-            Some(op) => Some(Instr::AluImm {
-                op,
-                rd: rd(word),
-                rs1: rs1(word),
-                imm: immediate(op, word),
-            }),
-            None => None,
-        },
-        0x37 => Some(Instr::Upper {
-            op: UpperOp::Lui,
-            rd: rd(word),
-            imm: u_immediate(word),
-        }),
-        0x17 => Some(Instr::Upper {
-            op: UpperOp::Auipc,
-            rd: rd(word),
-            imm: u_immediate(word),
-        }),
-        0x03 => match load_op(three) {
-            Some(op) => Some(Instr::Load {
-                op,
-                rd: rd(word),
-                rs1: rs1(word),
-                imm: i_immediate(word),
-            }),
-            None => None,
-        },
-        0x23 => match store_op(three) {
-            Some(op) => Some(Instr::Store {
-                op,
-                rs1: rs1(word),
-                rs2: rs2(word),
-                imm: s_immediate(word),
-            }),
-            None => None,
-        },
-        0x63 => match branch_op(three) {
-            Some(op) => Some(Instr::Branch {
-                op,
-                rs1: rs1(word),
-                rs2: rs2(word),
-                imm: b_immediate(word),
-            }),
-            None => None,
-        },
+        0x37 => Some(upper(UpperOp::Lui, word)),
+        0x17 => Some(upper(UpperOp::Auipc, word)),
         0x6F => Some(Instr::Jal {
             rd: rd(word),
             imm: j_immediate(word),
@@ -301,5 +368,26 @@ pub fn decode(word: u32) -> Option<Instr>
             0x10_0073 => Some(Instr::Ebreak),
             _ => None,
         },
+    }
+}
+
+/// The instruction that a word stands for; `None` for a word outside RV64IM (RISC-V unprivileged
+/// manual, "RV32/64G Instruction Set Listings": RV32I, RV64I, RV32M and RV64M).
+#[inline(always)]
+pub fn decode(word: u32) -> Option<Instr>
+    ensures table { (i : Instr) → (result ≡ Some i) ↔ Means word i }
+    ensures value { result ≡ decoded word }
+    ensures means { IfSome result (λ i. Means word i) }
+    ensures form { IfSome result InForm }
+{
+    match word % 128 {
+        0x33 => register_form(word),
+        0x3B => short_register_form(word),
+        0x13 => immediate_form(word),
+        0x1B => short_immediate_form(word),
+        0x03 => load_form(word),
+        0x23 => store_form(word),
+        0x63 => branch_form(word),
+        _ => other_form(word),
     }
 }

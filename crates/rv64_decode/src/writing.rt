@@ -127,7 +127,8 @@ fn j_word(op: u32, rd: Reg, imm: i32) -> u32
     requires low { negsuc 0xF_FFFF ≤ℤ imm }
     requires high { imm ≤ℤ pos 0xF_FFFF }
     requires even { cast_unsigned w32 imm % 2 ≡ 0 }
-    ensures { (w : ℕ) → w < 2 ^ 32 → (w ≡ result) ↔ ((opcode w ≡ op) × (rd_of w ≡ rd) × (imm_j w ≡ imm)) }
+    ensures { (w : ℕ) → w < 2 ^ 32 → (w ≡ result)
+        ↔ ((opcode w ≡ op) × (rd_of w ≡ rd) × (imm_j w ≡ imm)) }
 {
     let bits = imm.cast_unsigned() % 0x20_0000;
     let lower = bits / 0x1000 % 0x100 * 0x1000 + bits / 0x800 % 2 * 0x10_0000;
@@ -183,7 +184,8 @@ fn branch_code(op: BranchOp) -> ShortCode
 fn u_word(op: u32, rd: Reg, imm: i32) -> u32
     requires small { op < 2 ^ 7 }
     requires whole { cast_unsigned w32 imm % 2 ^ 12 ≡ 0 }
-    ensures { (w : ℕ) → w < 2 ^ 32 → (w ≡ result) ↔ ((opcode w ≡ op) × (rd_of w ≡ rd) × (imm_u w ≡ imm)) }
+    ensures { (w : ℕ) → w < 2 ^ 32 → (w ≡ result)
+        ↔ ((opcode w ≡ op) × (rd_of w ≡ rd) × (imm_u w ≡ imm)) }
 {
     op + rd.number() as u32 * 0x80 + imm.cast_unsigned()
 }
