@@ -6,17 +6,16 @@ use Rattle.std.proofs.lemmas.Bool.{cases_eq, cases_lt}
 use Rattle.std.proofs.lemmas.List.{get_or-set_same, get_or-set_other, length-set, get_or_default}
 use Rattle.linear_forms.specs.Forms.{is_small}
 use Rattle.linear_forms.specs.declared.location.Loc.{Loc}
-use Rattle.loop_data.specs.declared.cells.Cells.{Cells}
 use Rattle.loop_data.specs.declared.classes.Class.{Class}
 use Rattle.loop_data.specs.declared.classes.Class.TheVariants.{Induction, Private}
 use Rattle.loop_data.specs.declared.classes.Classes.{Classes}
 use Rattle.loop_data.specs.declared.graph.Graph.{Graph}
 use Rattle.loop_data.specs.declared.shape.Level.{Level}
 use Rattle.loop_data.specs.Nests.{Nest, In, nest_of}
-use Rattle.loop_data.specs.Locations.{CellMap, no_cells}
+use Rattle.loop_data.specs.Locations.{CellMap}
 use Rattle.loop_data.specs.LoopWords.{AreNest}
 use Rattle.loop_data.specs.LoopCode.{LoopCode, code_of, any_writes, writes, IsUnwritten, IsWritten}
-use Rattle.loop_data.specs.Lookups.{cell_map, role_by}
+use Rattle.loop_data.specs.Lookups.{role_by, AreFew}
 use Rattle.loop_data.specs.Classes.{IsInduction, HasRole, HasInnerRole}
 use Rattle.loop_data.specs.Facts.{Fact}
 use Rattle.loop_data.specs.FactPass.{AreFacts}
@@ -30,44 +29,41 @@ use Rattle.induction.specs.Rows.{HasClass, HasInnerClass, IsMoving, TellsRow, Te
 use Rattle.induction.specs.Results.{IsRootRow, IsInnerRow, AreInnerRows, IsLeastCarried}
 use Rattle.loop_data.specs.Results.{IsNestOf, AreSmall, class_in, class_at, AreClasses}
 use Rattle.induction.proofs.PlaceMarks.{levels_of, is_nest}
-use Rattle.loop_data.proofs.ValuePlaces.{cells_none}
 use Rattle.induction.proofs.WordLists.{rises_at}
 
 -- the loop at a place among the levels, with what is known at its words
-pub record IsAt (G : Graph) (ls : List Level) (i : ℕ) (l : Level) (w : Words) : Type 0 where
+pub record IsAt (G : Graph) (C : CellMap) (ls : List Level) (i : ℕ) (l : Level) (w : Words) : Type 0 where
   pub nest : AreNest G ls
   pub within : i < length ls
   pub here : l ≡ get_or ls i l
-  pub words : (m : Level) → get_or ls i m ≡ m → AreLoopWords G ls m w
+  pub words : (m : Level) → get_or ls i m ≡ m → AreLoopWords G C ls m w
+  pub few : AreFew C
 
-loop_of : (G : Graph) (ls : List Level) (i : ℕ) (l : Level) (w : Words) → IsAt G ls i l w → (N : Nest) (V : ℕ → ℕ → Option Fact) → IsNestOf G ls N → AreFacts N (code_of G no_cells) l V → IsLoopOf G ls N l V w
-loop_of G ls i l w at N V of facts =
+loop_of : (G : Graph) (C : CellMap) (ls : List Level) (i : ℕ) (l : Level) (w : Words) → IsAt G C ls i l w → (N : Nest) (V : ℕ → ℕ → Option Fact) → IsNestOf G ls N → AreFacts N (code_of G C) l V → IsLoopOf G C ls N l V w
+loop_of G C ls i l w at N V of facts =
     let among = subst (λ (xs : List Level). In xs l) (levels_of G ls N of) (listed_in ls i l at.within (sym at.here)) in
-    record { nest = at.nest; of = of; among = among; words = at.words l (sym at.here); facts = facts }
+    record { nest = at.nest; of = of; among = among; words = at.words l (sym at.here); few = at.few; facts = facts }
 
 root_is : (G : Graph) (ls : List Level) (l : Level) (N : Nest) → l ≡ get_or ls 0 l → IsNestOf G ls N → l ≡ N.root
 root_is G ls l N e of = e ∙ ap (λ (xs : List Level). get_or xs 0 l) (levels_of G ls N of)
 
-pub root_row_is : (G : Graph) (ls : List Level) (l : Level) (w : Words) (row : List (Option Class)) (c : Cells) → c.list.items ≡ [] → c.uses.items ≡ [] → IsAt G ls 0 l w → TellsRow ls l w row → IsRootRow G ls (cell_map c) row
-root_row_is G ls l w row c none unused at tells =
-    subst (λ (C : CellMap). IsRootRow G ls C row) (sym (cells_none c none unused))
+pub root_row_is : (G : Graph) (C : CellMap) (ls : List Level) (l : Level) (w : Words) (row : List (Option Class)) → IsAt G C ls 0 l w → TellsRow ls l w row → IsRootRow G ls C row
+root_row_is G C ls l w row at tells =
     (λ N V r of all. let root = root_is G ls l N at.here of in
-    tells r G N V (loop_of G ls 0 l w at N V of (subst (λ (x : Level). AreFacts N (code_of G no_cells) x V) (sym root) all)) root)
+    tells r G C N V (loop_of G C ls 0 l w at N V of (subst (λ (x : Level). AreFacts N (code_of G C) x V) (sym root) all)) root)
 
-pub least_is : (G : Graph) (ls : List Level) (l : Level) (w : Words) (loc : Loc) (c : Cells) → c.list.items ≡ [] → c.uses.items ≡ [] → IsAt G ls 0 l w → IsLeastAt ls l w loc → IsLeastCarried G ls (cell_map c) loc
-least_is G ls l w loc c none unused at least =
-    subst (λ (C : CellMap). IsLeastCarried G ls C loc) (sym (cells_none c none unused))
+pub least_is : (G : Graph) (C : CellMap) (ls : List Level) (l : Level) (w : Words) (loc : Loc) → IsAt G C ls 0 l w → IsLeastAt ls l w loc → IsLeastCarried G ls C loc
+least_is G C ls l w loc at least =
     (λ N V of all. let root = root_is G ls l N at.here of in
-    least G N V (loop_of G ls 0 l w at N V of (subst (λ (x : Level). AreFacts N (code_of G no_cells) x V) (sym root) all)) root)
+    least G C N V (loop_of G C ls 0 l w at N V of (subst (λ (x : Level). AreFacts N (code_of G C) x V) (sym root) all)) root)
 
-pub inner_row_is : (G : Graph) (ls : List Level) (i : ℕ) (l : Level) (w : Words) (row : List (Option Class)) (c : Cells) → c.list.items ≡ [] → c.uses.items ≡ [] → IsAt G ls i l w → TellsInnerRow ls l w row → IsInnerRow G ls (cell_map c) i row
-inner_row_is G ls i l w row c none unused at tells =
-    subst (λ (C : CellMap). IsInnerRow G ls C i row) (sym (cells_none c none unused)) (record { moving = λ r. (tells r).0; each = each })
+pub inner_row_is : (G : Graph) (C : CellMap) (ls : List Level) (i : ℕ) (l : Level) (w : Words) (row : List (Option Class)) → IsAt G C ls i l w → TellsInnerRow ls l w row → IsInnerRow G ls C i row
+inner_row_is G C ls i l w row at tells = record { moving = λ r. (tells r).0; each = each }
   where
-    each : (N : Nest) (V : ℕ → ℕ → Option Fact) (m : Level) (r : ℕ) → IsNestOf G ls N → AreFacts N (code_of G no_cells) m V → get_or ls i m ≡ m → HasInnerClass N (code_of G no_cells) V m r (class_in row r)
+    each : (N : Nest) (V : ℕ → ℕ → Option Fact) (m : Level) (r : ℕ) → IsNestOf G ls N → AreFacts N (code_of G C) m V → get_or ls i m ≡ m → HasInnerClass N (code_of G C) V m r (class_in row r)
     each N V m r of all e =
         let q = at.here ∙ get_or_default ls i l m at.within ∙ e in
-        subst (λ (x : Level). HasInnerClass N (code_of G no_cells) V x r (class_in row r)) q ((tells r).1 G N V (loop_of G ls i l w at N V of (subst (λ (x : Level). AreFacts N (code_of G no_cells) x V) (sym q) all)))
+        subst (λ (x : Level). HasInnerClass N (code_of G C) V x r (class_in row r)) q ((tells r).1 G C N V (loop_of G C ls i l w at N V of (subst (λ (x : Level). AreFacts N (code_of G C) x V) (sym q) all)))
 
 -- no rows yet, and one row more
 no_class : (n r : ℕ) → class_in (replicate n None) r ≡ None
@@ -210,11 +206,11 @@ pub few_levels : (G : Graph) (ls : List Level) → AreNest G ls → (length ls �
 few_levels G ls nest = let n : length ls ≡ suc (length nest.inner) = ap (λ (xs : List Level). length xs) nest.are in let f = nest.few in (omega arith, omega arith)
 
 -- the loop at a place among the levels that a slice has
-pub is_at : (G : Graph) (ls xs : List Level) (i : ℕ) (l : Level) (w : Words) → AreNest G ls → i < length ls → xs ≡ ls → l ≡ get_or xs i l → ((m : Level) → get_or ls i m ≡ m → AreLoopWords G ls m w) → IsAt G ls i l w
-is_at G ls xs i l w nest within e at words = record { nest = nest; within = within; here = at ∙ ap (λ (ys : List Level). get_or ys i l) e; words = words }
+pub is_at : (G : Graph) (C : CellMap) (ls xs : List Level) (i : ℕ) (l : Level) (w : Words) → AreNest G ls → i < length ls → xs ≡ ls → l ≡ get_or xs i l → ((m : Level) → get_or ls i m ≡ m → AreLoopWords G C ls m w) → AreFew C → IsAt G C ls i l w
+is_at G C ls xs i l w nest within e at words few = record { nest = nest; within = within; here = at ∙ ap (λ (ys : List Level). get_or ys i l) e; words = words; few = few }
 
 pub levels_rise : (G : Graph) (ls xs : List Level) → AreNest G ls → xs ≡ ls → All (λ (l : Level). IsStrictlyIncreasing l.body) xs
 levels_rise G ls xs nest e = subst (λ (ys : List Level). All (λ (l : Level). IsStrictlyIncreasing l.body) ys) (sym e) (levels_ordered G ls nest)
 
-pub level_rises : (G : Graph) (ls : List Level) (i : ℕ) (l : Level) (w : Words) → IsAt G ls i l w → IsStrictlyIncreasing l.body
-level_rises G ls i l w at = rises_at G ls i l at.nest at.within at.here
+pub level_rises : (G : Graph) (C : CellMap) (ls : List Level) (i : ℕ) (l : Level) (w : Words) → IsAt G C ls i l w → IsStrictlyIncreasing l.body
+level_rises G C ls i l w at = rises_at G ls i l at.nest at.within at.here

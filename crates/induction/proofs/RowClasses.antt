@@ -1,18 +1,19 @@
 -- The class of a register, and rows of classes.
-use Rattle.std.proofs.Common.{◌≡◌, ◌≢◌, ℕ, ◌+◌, ◌<◌, ◌≤◌, ◌⊎◌, inl, inr, false, if◌then◌else◌, nat_lt, List, length, get_or, set, replicate, Option, Some, None, ℤ, to_z, of_z, w64, refl, ap, sym, ◌∙◌, subst, arith}
+use Rattle.std.proofs.Common.{◌≡◌, ◌≢◌, ℕ, ◌+◌, ◌-◌, ◌<◌, ◌≤◌, ◌⊎◌, inl, inr, Bool, true, false, if◌then◌else◌, nat_lt, List, length, get_or, set, replicate, Option, Some, None, ℤ, to_z, of_z, w64, refl, ap, sym, ◌∙◌, subst, arith}
 use Rattle.std.proofs.lemmas.Bool.{cases_eq, cases_lt}
 use Rattle.std.proofs.lemmas.Bool.Decides.{nat_tests}
 use Rattle.std.proofs.lemmas.List.{get_or-set_same, get_or-set_other, get_or-replicate, get_or_past, length-replicate, length-set}
 use Rattle.rv64_decode.specs.declared.instr.Instr.{Instr}
-use Rattle.rv64_decode.specs.declared.instr.Instr.TheVariants.{Alu, AluImm, Upper, Load, Store, Branch, Jal, Jalr, Fence, Ecall, Ebreak}
 use Rattle.linear_forms.specs.declared.location.Loc.{Loc}
-use Rattle.linear_forms.specs.declared.location.Loc.TheVariants.{Reg}
+use Rattle.linear_forms.specs.declared.location.Loc.TheVariants.{Reg, Cell}
+use Rattle.linear_forms.specs.Locations.{number_of, location_of, IsLocation}
 use Rattle.loop_data.specs.declared.classes.Class.{Class}
 use Rattle.loop_data.specs.declared.classes.Class.TheVariants.{Induction, Private}
+use Rattle.loop_data.specs.declared.flow.Flow.{Flow}
 use Rattle.loop_data.specs.declared.graph.Graph.{Graph}
 use Rattle.loop_data.specs.declared.shape.Level.{Level}
 use Rattle.loop_data.specs.Nests.{Nest}
-use Rattle.loop_data.specs.Locations.{no_cells, word_writes, writes_cell, writes_register}
+use Rattle.loop_data.specs.Locations.{CellMap, instr_writes}
 use Rattle.loop_data.specs.LoopCode.{LoopCode, code_of, instr_among, writes, IsUnwritten, IsWritten}
 use Rattle.loop_data.specs.Facts.{Fact}
 use Rattle.loop_data.specs.Classes.{IsInduction, IsCarried}
@@ -20,6 +21,7 @@ use Rattle.loop_data.specs.Results.{IsLeastLocation}
 use Rattle.std.proofs.lemmas.Int.{to_z-of_z}
 use Rattle.linear_forms.proofs.Ranges.{fits_small}
 use Rattle.loop_data.proofs.Tests.{yes_no}
+use Rattle.loop_data.proofs.ValuePlaces.{none_beyond}
 use Rattle.induction.specs.declared.words.Words.{Words}
 use Rattle.induction.specs.declared.writers.Writers.{Writers}
 use Rattle.induction.specs.declared.writers.Writers.TheVariants.{Nowhere}
@@ -29,73 +31,58 @@ use Rattle.induction.specs.Rows.{HasClass, TellsClass, IsCarriedAt, TellsRow, Is
 use Rattle.induction.proofs.Outcomes.{unwritten, written, moves, stays, private, not_private}
 
 -- what the places of a loop tell of a register
-pub tells_none : (ls : List Level) (l : Level) (w : Words) (r : ℕ) → r < 32 → AreWriters w.flow.instrs.items (length l.body) r Nowhere → TellsClass ls l w r None
-tells_none ls l w r lr a G N V s e = subst (λ (x : Level). IsUnwritten (code_of G no_cells) x r) e (unwritten G ls N l V w r (record { is = s; below = lr }) a)
+pub tells_none : (ls : List Level) (l : Level) (w : Words) (r : ℕ) → r < 48 → AreWriters w.flow (length l.body) r Nowhere → TellsClass ls l w r None
+tells_none ls l w r lr a G C N V s e = subst (λ (x : Level). IsUnwritten (code_of G C) x r) e (unwritten G C ls N l V w r (record { is = s; below = lr }) a)
 
-pub tells_moves : (ls : List Level) (l : Level) (w : Words) (r : ℕ) → r < 32 → (by : Writers) → AreWriters w.flow.instrs.items (length l.body) r by → (z : ℤ) → step_by ls l w r by ≡ Some z → TellsClass ls l w r (Some (Induction (to_z w64 (of_z w64 z))))
-tells_moves ls l w r lr by a z q G N V s e =
-    let k = moves G ls N l V w r (record { is = s; below = lr }) by a z q in
-    subst (λ y. IsInduction N (code_of G no_cells) V N.root r y) (sym (to_z-of_z w64 z (fits_small z k.small))) (subst (λ (x : Level). IsInduction N (code_of G no_cells) V x r z) e k)
+pub tells_moves : (ls : List Level) (l : Level) (w : Words) (r : ℕ) → r < 48 → (by : Writers) → AreWriters w.flow (length l.body) r by → (z : ℤ) → step_by ls l w r by ≡ Some z → TellsClass ls l w r (Some (Induction (to_z w64 (of_z w64 z))))
+tells_moves ls l w r lr by a z q G C N V s e =
+    let k = moves G C ls N l V w r (record { is = s; below = lr }) by a z q in
+    subst (λ y. IsInduction N (code_of G C) V N.root r y) (sym (to_z-of_z w64 z (fits_small z k.small))) (subst (λ (x : Level). IsInduction N (code_of G C) V x r z) e k)
 
-root_of : (G : Graph) (ls : List Level) (N : Nest) (l : Level) (V : ℕ → ℕ → Option Fact) (w : Words) → IsLoopOf G ls N l V w → l ≡ N.root → IsLoopOf G ls N N.root V w
-root_of G ls N l V w s e = subst (λ (x : Level). IsLoopOf G ls N x V w) e s
+root_of : (G : Graph) (C : CellMap) (ls : List Level) (N : Nest) (l : Level) (V : ℕ → ℕ → Option Fact) (w : Words) → IsLoopOf G C ls N l V w → l ≡ N.root → IsLoopOf G C ls N N.root V w
+root_of G C ls N l V w s e = subst (λ (x : Level). IsLoopOf G C ls N x V w) e s
 
-pub tells_private : (ls : List Level) (l : Level) (w : Words) (r : ℕ) → r < 32 → (by : Writers) → AreWriters w.flow.instrs.items (length l.body) r by → by ≢ Nowhere → step_by ls l w r by ≡ None → IsPrivateAt w r → TellsClass ls l w r (Some Private)
-tells_private ls l w r lr by a some q k G N V s e = (
-  subst (λ (x : Level). IsWritten (code_of G no_cells) x r) e (written G ls N l V w r (record { is = s; below = lr }) by a some),
-  λ z. subst (λ (x : Level). ¬ IsInduction N (code_of G no_cells) V x r z) e (stays G ls N l V w r (record { is = s; below = lr }) by a q z),
-  private G ls N V w r (record { is = root_of G ls N l V w s e; below = lr }) k,
+pub tells_private : (ls : List Level) (l : Level) (w : Words) (r : ℕ) → r < 48 → (by : Writers) → AreWriters w.flow (length l.body) r by → by ≢ Nowhere → step_by ls l w r by ≡ None → IsPrivateAt w r → TellsClass ls l w r (Some Private)
+tells_private ls l w r lr by a some q k G C N V s e = (
+  subst (λ (x : Level). IsWritten (code_of G C) x r) e (written G C ls N l V w r (record { is = s; below = lr }) by a some),
+  λ z. subst (λ (x : Level). ¬ IsInduction N (code_of G C) V x r z) e (stays G C ls N l V w r (record { is = s; below = lr }) by a q z),
+  private G C ls N V w r (record { is = root_of G C ls N l V w s e; below = lr }) k,
 )
 
-pub is_carried : (ls : List Level) (l : Level) (w : Words) (r : ℕ) → r < 32 → (by : Writers) → AreWriters w.flow.instrs.items (length l.body) r by → by ≢ Nowhere → step_by ls l w r by ≡ None → IsNotPrivateAt w r → IsCarriedAt ls l w r (Reg r)
+pub is_carried : (ls : List Level) (l : Level) (w : Words) (r : ℕ) → r < 48 → (by : Writers) → AreWriters w.flow (length l.body) r by → by ≢ Nowhere → step_by ls l w r by ≡ None → IsNotPrivateAt w r → IsCarriedAt ls l w r (location_of r)
 is_carried ls l w r lr by a some q k = (refl, carried)
   where
-    carried : (G : Graph) (N : Nest) (V : ℕ → ℕ → Option Fact) → IsLoopOf G ls N l V w → l ≡ N.root → IsCarried N (code_of G no_cells) V r
-    carried G N V s e = record {
-      written = subst (λ (x : Level). IsWritten (code_of G no_cells) x r) e (written G ls N l V w r (record { is = s; below = lr }) by a some);
-      no_induction = λ z. subst (λ (x : Level). ¬ IsInduction N (code_of G no_cells) V x r z) e (stays G ls N l V w r (record { is = s; below = lr }) by a q z);
-      not_private = not_private G ls N V w r (record { is = root_of G ls N l V w s e; below = lr }) k;
+    carried : (G : Graph) (C : CellMap) (N : Nest) (V : ℕ → ℕ → Option Fact) → IsLoopOf G C ls N l V w → l ≡ N.root → IsCarried N (code_of G C) V r
+    carried G C N V s e = record {
+      written = subst (λ (x : Level). IsWritten (code_of G C) x r) e (written G C ls N l V w r (record { is = s; below = lr }) by a some);
+      no_induction = λ z. subst (λ (x : Level). ¬ IsInduction N (code_of G C) V x r z) e (stays G C ls N l V w r (record { is = s; below = lr }) by a q z);
+      not_private = not_private G C ls N V w r (record { is = root_of G C ls N l V w s e; below = lr }) k;
     }
 
-pub tells_step : (ls : List Level) (l : Level) (w : Words) (r : ℕ) → r < 32 → (by : Writers) → AreWriters w.flow.instrs.items (length l.body) r by → (z : ℤ) → step_by ls l w r by ≡ Some z → TellsInner ls l w r (Some (Induction (to_z w64 (of_z w64 z))))
-tells_step ls l w r lr by a z q = (tt, λ G N V s. let k = moves G ls N l V w r (record { is = s; below = lr }) by a z q in subst (λ y. IsInduction N (code_of G no_cells) V l r y) (sym (to_z-of_z w64 z (fits_small z k.small))) k)
+pub tells_step : (ls : List Level) (l : Level) (w : Words) (r : ℕ) → r < 48 → (by : Writers) → AreWriters w.flow (length l.body) r by → (z : ℤ) → step_by ls l w r by ≡ Some z → TellsInner ls l w r (Some (Induction (to_z w64 (of_z w64 z))))
+tells_step ls l w r lr by a z q = (tt, λ G C N V s. let k = moves G C ls N l V w r (record { is = s; below = lr }) by a z q in subst (λ y. IsInduction N (code_of G C) V l r y) (sym (to_z-of_z w64 z (fits_small z k.small))) k)
 
-pub tells_no_step : (ls : List Level) (l : Level) (w : Words) (r : ℕ) → r < 32 → (by : Writers) → AreWriters w.flow.instrs.items (length l.body) r by → step_by ls l w r by ≡ None → TellsInner ls l w r None
-tells_no_step ls l w r lr by a q = (tt, λ G N V s z. stays G ls N l V w r (record { is = s; below = lr }) by a q z)
+pub tells_no_step : (ls : List Level) (l : Level) (w : Words) (r : ℕ) → r < 48 → (by : Writers) → AreWriters w.flow (length l.body) r by → step_by ls l w r by ≡ None → TellsInner ls l w r None
+tells_no_step ls l w r lr by a q = (tt, λ G C N V s z. stays G C ls N l V w r (record { is = s; below = lr }) by a q z)
 
--- the writers among the words that a slice has
-pub writers_in : (xs ys : List (Option Instr)) (n r : ℕ) (by : Writers) → xs ≡ ys → length ys ≡ n → AreWriters xs (length xs) r by → AreWriters ys n r by
-writers_in xs ys n r by e f a = subst (λ k. AreWriters ys k r by) f (subst (λ (zs : List (Option Instr)). AreWriters zs (length zs) r by) e a)
+-- the writers among the words, by their number
+pub writers_in : (f : Flow) (n r : ℕ) (by : Writers) → length f.instrs.items ≡ n → AreWriters f (length f.instrs.items) r by → AreWriters f n r by
+writers_in f n r by e a = subst (λ k. AreWriters f k r by) e a
 
--- x0, and what is no register, is not written
-no_cell : (i : Instr) (r : ℕ) → writes_cell i None r ≡ false
-no_cell (Alu op rd rs1 rs2) r = refl
-no_cell (AluImm op rd rs1 imm) r = refl
-no_cell (Upper op rd imm) r = refl
-no_cell (Load op rd rs1 imm) r = refl
-no_cell (Store op rs1 rs2 imm) r = refl
-no_cell (Branch op rs1 rs2 imm) r = refl
-no_cell (Jal rd imm) r = refl
-no_cell (Jalr rd rs1 imm) r = refl
-no_cell (Fence rd rs1 imm) r = refl
-no_cell Ecall r = refl
-no_cell Ebreak r = refl
-
+-- x0, and what is no location, is not written
 abbrev IsNone : ℕ → Type 0
-IsNone r = (r ≡ 0) ⊎ (32 ≤ r)
+IsNone r = (r ≡ 0) ⊎ (48 ≤ r)
 
-unwritten_word : (u : ℕ) (i : Option Instr) (r : ℕ) → IsNone r → word_writes no_cells u i r ≡ false
-unwritten_word u None r h = refl
-unwritten_word u (Some i) r (inl e) = subst (λ q. word_writes no_cells u (Some i) q ≡ false) (sym e) refl
-unwritten_word u (Some i) r (inr l) =
-    let f : nat_lt r 32 ≡ false = grind (arith, nat_tests) in
-    ap (λ b. if b then writes_register i r else writes_cell i None r) f ∙ no_cell i r
+unwritten_word : (i : Option Instr) (cell : Option ℕ) (r : ℕ) → ((k : ℕ) → cell ≡ Some k → k < 16) → IsNone r → instr_writes i cell r ≡ false
+unwritten_word None cell r few h = refl
+unwritten_word (Some i) cell r few (inl e) = subst (λ q. instr_writes (Some i) cell q ≡ false) (sym e) refl
+unwritten_word (Some i) cell r few (inr l) = none_beyond (Some i) cell r few l
 
 tells_nothing : (ls : List Level) (l : Level) (w : Words) (r : ℕ) → IsNone r → TellsClass ls l w r None
-tells_nothing ls l w r h G N V s e u held = unwritten_word u (instr_among G.words u) r h
+tells_nothing ls l w r h G C N V s e u held = unwritten_word (instr_among G.words u) (C.uses u) r (s.few.uses u) h
 
 tells_nothing_inner : (ls : List Level) (l : Level) (w : Words) (r : ℕ) → IsNone r → TellsInner ls l w r None
-tells_nothing_inner ls l w r h = (tt, λ G N V s z i. yes_no (writes (code_of G no_cells) i.word r) i.does (unwritten_word i.word (instr_among G.words i.word) r h))
+tells_nothing_inner ls l w r h = (tt, λ G C N V s z i. yes_no (writes (code_of G C) i.word r) i.does (unwritten_word (instr_among G.words i.word) (C.uses i.word) r (s.few.uses i.word) h))
 
 -- rows whose places from n on have no class
 pub record IsRowTo (P : ℕ → Option Class → Type 0) (row : List (Option Class)) (n : ℕ) : Type 0 where
@@ -133,7 +120,7 @@ row_more P row n x l a p = record { count = length-set row n x ∙ a.count; late
         by (inl e) = let c = a.count in subst (λ k. P k (get_or (set row n x) k None)) (sym e) (subst (P n) (sym (get_or-set_same row n x None (omega arith))) p)
         by (inr ne) = subst (P q) (sym (get_or-set_other row n q x None ne)) (a.each q (omega arith))
 
-row_all : (P : ℕ → Option Class → Type 0) (row : List (Option Class)) (n : ℕ) → 32 ≤ n → IsRowTo P row n → ((q : ℕ) → 32 ≤ q → P q None) → (q : ℕ) → P q (get_or row q None)
+row_all : (P : ℕ → Option Class → Type 0) (row : List (Option Class)) (n : ℕ) → 48 ≤ n → IsRowTo P row n → ((q : ℕ) → 48 ≤ q → P q None) → (q : ℕ) → P q (get_or row q None)
 row_all P row n l a none q = by (cases_lt q n)
   where
     by : (q < n) ⊎ (n ≤ q) → P q (get_or row q None)
@@ -144,13 +131,13 @@ row_all P row n l a none q = by (cases_lt q n)
 pub root_first : (ls : List Level) (l : Level) (w : Words) (row : List (Option Class)) → row ≡ replicate 48 None → IsRowTo (TellsClass ls l w) row 1
 root_first ls l w row e = row_first (TellsClass ls l w) (tells_nothing ls l w 0 (inl refl)) row e
 
-pub root_all : (ls : List Level) (l : Level) (w : Words) (row : List (Option Class)) (n : ℕ) → 32 ≤ n → IsRowTo (TellsClass ls l w) row n → TellsRow ls l w row
+pub root_all : (ls : List Level) (l : Level) (w : Words) (row : List (Option Class)) (n : ℕ) → 48 ≤ n → IsRowTo (TellsClass ls l w) row n → TellsRow ls l w row
 root_all ls l w row n m a = row_all (TellsClass ls l w) row n m a (λ q k. tells_nothing ls l w q (inr k))
 
 pub inner_first : (ls : List Level) (l : Level) (w : Words) (row : List (Option Class)) → row ≡ replicate 48 None → IsRowTo (TellsInner ls l w) row 1
 inner_first ls l w row e = row_first (TellsInner ls l w) (tells_nothing_inner ls l w 0 (inl refl)) row e
 
-pub inner_all : (ls : List Level) (l : Level) (w : Words) (row : List (Option Class)) (n : ℕ) → 32 ≤ n → IsRowTo (TellsInner ls l w) row n → TellsInnerRow ls l w row
+pub inner_all : (ls : List Level) (l : Level) (w : Words) (row : List (Option Class)) (n : ℕ) → 48 ≤ n → IsRowTo (TellsInner ls l w) row n → TellsInnerRow ls l w row
 inner_all ls l w row n m a = row_all (TellsInner ls l w) row n m a (λ q k. tells_nothing_inner ls l w q (inr k))
 
 -- a location with a class is not carried
@@ -159,12 +146,27 @@ class_not_carried N B V r None h k = yes_no (writes B (k.written).word r) (k.wri
 class_not_carried N B V r (Some (Induction z)) h k = k.no_induction z h
 class_not_carried N B V r (Some Private) h k = k.not_private h.2
 
-pub least_carried : (ls : List Level) (l : Level) (w : Words) (row : List (Option Class)) (r : ℕ) (loc : Loc) → 1 ≤ r → r < 32 → IsRowTo (TellsClass ls l w) row r → IsCarriedAt ls l w r loc → IsLeastAt ls l w loc
-least_carried ls l w row r loc one lr a k G N V s e = subst (λ (x : Loc). IsLeastLocation (IsCarried N (code_of G no_cells) V) (Some x)) (sym k.0) ((one, lr), k.1 G N V s e, least)
+-- the location of a number
+located : (r : ℕ) → 1 ≤ r → r < 48 → IsLocation (location_of r)
+located r one lr = go (nat_lt r 32) refl
   where
-    least : (q : ℕ) → IsCarried N (code_of G no_cells) V q → r ≤ q
+    go : (b : Bool) → nat_lt r 32 ≡ b → IsLocation (if b then Reg r else Cell (r - 32))
+    go true e = (one, grind (arith, nat_tests))
+    go false e = let l : 32 ≤ r = grind (arith, nat_tests) in omega arith
+
+numbered : (r : ℕ) → number_of (location_of r) ≡ r
+numbered r = go (nat_lt r 32) refl
+  where
+    go : (b : Bool) → nat_lt r 32 ≡ b → number_of (if b then Reg r else Cell (r - 32)) ≡ r
+    go true e = refl
+    go false e = let l : 32 ≤ r = grind (arith, nat_tests) in omega arith
+
+pub least_carried : (ls : List Level) (l : Level) (w : Words) (row : List (Option Class)) (r : ℕ) (loc : Loc) → 1 ≤ r → r < 48 → IsRowTo (TellsClass ls l w) row r → IsCarriedAt ls l w r loc → IsLeastAt ls l w loc
+least_carried ls l w row r loc one lr a k G C N V s e = subst (λ (x : Loc). IsLeastLocation (IsCarried N (code_of G C) V) (Some x)) (sym k.0) (located r one lr, subst (λ n. IsCarried N (code_of G C) V n) (sym (numbered r)) (k.1 G C N V s e), λ q c. subst (λ n. n ≤ q) (sym (numbered r)) (least q c))
+  where
+    least : (q : ℕ) → IsCarried N (code_of G C) V q → r ≤ q
     least q c = by (cases_lt q r)
       where
         by : (q < r) ⊎ (r ≤ q) → r ≤ q
-        by (inl m) = absurd (class_not_carried N (code_of G no_cells) V q (get_or row q None) (a.each q m G N V s e) c)
+        by (inl m) = absurd (class_not_carried N (code_of G C) V q (get_or row q None) (a.each q m G C N V s e) c)
         by (inr m) = m

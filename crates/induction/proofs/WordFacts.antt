@@ -8,7 +8,7 @@ use Rattle.loop_data.specs.declared.graph.Graph.{Graph}
 use Rattle.loop_data.specs.declared.shape.Level.{Level}
 use Rattle.loop_data.specs.declared.values.Values.{Values}
 use Rattle.loop_data.specs.Nests.{Nest}
-use Rattle.loop_data.specs.Locations.{no_cells}
+use Rattle.loop_data.specs.Locations.{CellMap}
 use Rattle.loop_data.specs.LoopCode.{instr_among, code_of}
 use Rattle.loop_data.specs.Facts.{Fact, Number, Offset, fact_past, fact_after}
 use Rattle.loop_data.specs.Lookups.{fact_at, fact_in}
@@ -17,7 +17,7 @@ use Rattle.loop_data.proofs.Tests.{is_eq, is_ne, eq_of, and_true, true_and}
 use Rattle.loop_data.proofs.FactUnique.{one_pass}
 use Rattle.induction.specs.declared.words.Words.{Words}
 use Rattle.induction.specs.Words.{IsLoopOf, step_in}
-use Rattle.induction.proofs.PlaceMarks.{has_at, AreApart, apart_of, body_rises, is_nest, instr_at_place}
+use Rattle.induction.proofs.PlaceMarks.{has_at, AreApart, apart_of, body_rises, is_nest, instr_at_place, use_at_place}
 
 abbrev addresses : List Values → List ℕ
 addresses points = map (λ (v : Values). v.at) points
@@ -32,12 +32,13 @@ fact_at_place (x ∷ xs) (suc p) r d l =
     ∙ fact_at_place xs p r (λ i j k m. d (suc i) (suc j) (omega arith) (omega arith)) (omega arith)
 
 -- the fact after the word at a place is that of any family of facts of the loop
-pub past_is : (G : Graph) (ls : List Level) (N : Nest) (l : Level) (V : ℕ → ℕ → Option Fact) (w : Words) → IsLoopOf G ls N l V w → (p r : ℕ) → p < length l.body
-    → past w.flow.instrs.items w.points.items p r ≡ fact_after (code_of G no_cells) (get_or l.body p 0) (V (get_or l.body p 0)) r
-past_is G ls N l V w s p r lp =
-    ap (λ (i : Option Instr). fact_past (values_at w.points.items p).at i (fact_in (values_at w.points.items p).of) r) (instr_at_place G ls l.body w s.words.flow p lp)
-    ∙ ap (λ (F : ℕ → Option Fact). fact_past (values_at w.points.items p).at (instr_among G.words (get_or l.body p 0)) F r) (fun_ext facts)
-    ∙ ap (λ (u : ℕ). fact_past u (instr_among G.words (get_or l.body p 0)) (V (get_or l.body p 0)) r) at
+pub past_is : (G : Graph) (C : CellMap) (ls : List Level) (N : Nest) (l : Level) (V : ℕ → ℕ → Option Fact) (w : Words) → IsLoopOf G C ls N l V w → (p r : ℕ) → p < length l.body
+    → past w.flow w.points.items p r ≡ fact_after (code_of G C) (get_or l.body p 0) (V (get_or l.body p 0)) r
+past_is G C ls N l V w s p r lp =
+    ap (λ (i : Option Instr). fact_past (values_at w.points.items p).at i (get_or w.flow.uses.items p None) (fact_in (values_at w.points.items p).of) r) (instr_at_place G C ls l.body w s.words.flow p lp)
+    ∙ ap (λ (c : Option ℕ). fact_past (values_at w.points.items p).at (instr_among G.words (get_or l.body p 0)) c (fact_in (values_at w.points.items p).of) r) (use_at_place G C ls l.body w s.words.flow p lp)
+    ∙ ap (λ (F : ℕ → Option Fact). fact_past (values_at w.points.items p).at (instr_among G.words (get_or l.body p 0)) (C.uses (get_or l.body p 0)) F r) (fun_ext facts)
+    ∙ ap (λ (u : ℕ). fact_past u (instr_among G.words (get_or l.body p 0)) (C.uses (get_or l.body p 0)) (V (get_or l.body p 0)) r) at
   where
     within : p < length w.points.items
     within = let n = s.words.sized.points in omega arith
@@ -52,7 +53,7 @@ past_is G ls N l V w s p r lp =
     facts q =
         sym (fact_at_place w.points.items p q apart within)
         ∙ ap (λ (u : ℕ). fact_at w.points.items u q) at
-        ∙ one_pass N (code_of G no_cells) l (is_nest G ls N s.nest s.of) s.among (fact_at w.points.items) V (s.words.facts N s.of) s.facts (get_or l.body p 0) (has_at l.body p lp) q
+        ∙ one_pass N (code_of G C) l (is_nest G ls N s.nest s.of) s.among (fact_at w.points.items) V (s.words.facts N s.of) s.facts (get_or l.body p 0) (has_at l.body p lp) q
 
 -- what a step says of a fact
 pub step_is : (x : Option Fact) (r : ℕ) (z : ℤ) → step_in x r ≡ Some z → (x ≡ Some (Offset r z)) × (is_small z ≡ true)

@@ -72,13 +72,20 @@ fn is_round(m: &Level, level: &Level, x: u64) -> bool
 /// By how much the word at a place moves a location on, where no other word writes it.
 fn step_of_word(words: &Words, p: usize, r: usize) -> Option<i64>
     requires instrs { p < length words.now.flow.instrs.items }
+    requires uses { p < length words.now.flow.uses.items }
     requires points { p < length words.now.points.items }
-    requires location { r < 32 }
+    requires location { r < 48 }
     ensures { result ≡ step_at words.now p r }
 {
     let point = &words.points[p];
     step_of(
-        value_after(point.at, &words.flow.instrs[p], &point.of, r),
+        value_after(
+            point.at,
+            &words.flow.instrs[p],
+            words.flow.uses[p],
+            &point.of,
+            r,
+        ),
         r,
     )
 }
@@ -89,7 +96,7 @@ fn step_at_place(levels: &[Level], level: &Level, words: &Words, r: usize, p: us
     requires level { IsStrictlyIncreasing level.now.body }
     requires sized { AreSized level.now.body words.now }
     requires place { p < length level.now.body }
-    requires location { r < 32 }
+    requires location { r < 48 }
     ensures { result ≡ step_of_place levels.now level.now words.now r p }
 {
     if !contains(words.always, r) {
@@ -113,8 +120,8 @@ pub fn step_for(
     requires levels { All (λ l. IsStrictlyIncreasing l.body) levels.now }
     requires level { IsStrictlyIncreasing level.now.body }
     requires sized { AreSized level.now.body words.now }
-    requires writers { AreWriters words.now.flow.instrs.items (length level.now.body) r by }
-    requires location { r < 32 }
+    requires writers { AreWriters words.now.flow (length level.now.body) r by }
+    requires location { r < 48 }
     ensures { result ≡ step_by levels.now level.now words.now r by }
 {
     match by {

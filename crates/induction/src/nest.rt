@@ -1,6 +1,6 @@
 ghost use Rattle.std.specs.Prelude.{◌≡◌, ◌<◌, ◌≤◌, [], length, IfOk, IfErr};
 ghost use Rattle.loop_data.specs.LoopWords.{AreNest};
-ghost use Rattle.loop_data.specs.Lookups.{cell_map, HasNoCells};
+ghost use Rattle.loop_data.specs.Lookups.{cell_map, AreNumbered};
 ghost use Rattle.loop_data.specs.Paths.{IsInOrder};
 ghost use Rattle.induction.specs.Results.{IsRootRow, IsInnerRow, AreInnerRows, IsRefusal};
 ghost use Rattle.loop_data.specs.Results.{AreClasses};
@@ -11,7 +11,7 @@ use crate::words::words_of;
 use loop_data::{Cells, Class, Classes, Graph, LoopShape};
 use std::alloc::{AllocError, Global};
 
-/// The classes of the registers in the root.
+/// The classes of the locations in the root.
 fn root_classes(
     alloc: Global,
     shape: &LoopShape,
@@ -19,8 +19,8 @@ fn root_classes(
     cells: &Cells,
 ) -> Result<[Option<Class>; 48], ClassErr>
     requires graph { IsInOrder graph.now }
+    requires cells { AreNumbered cells.now }
     requires nest { AreNest graph.now shape.now.levels }
-    requires no_cells { HasNoCells cells.now }
     ensures ok { IfOk result (IsRootRow graph.now shape.now.levels (cell_map cells.now)) }
     ensures err { IfErr result (IsRefusal graph.now shape.now.levels (cell_map cells.now)) }
 {
@@ -41,9 +41,9 @@ fn inductions(
     cells: &Cells,
 ) -> Result<[Option<Class>; 48], AllocError>
     requires graph { IsInOrder graph.now }
+    requires cells { AreNumbered cells.now }
     requires nest { AreNest graph.now shape.now.levels }
     requires within { level < length shape.now.levels }
-    requires no_cells { HasNoCells cells.now }
     ensures { IfOk result (IsInnerRow graph.now shape.now.levels (cell_map cells.now) level) }
 {
     let levels = shape.levels.as_slice();
@@ -59,8 +59,8 @@ fn inner_classes(
     cells: &Cells,
 ) -> Result<[[Option<Class>; 48]; 3], AllocError>
     requires graph { IsInOrder graph.now }
+    requires cells { AreNumbered cells.now }
     requires nest { AreNest graph.now shape.now.levels }
-    requires no_cells { HasNoCells cells.now }
     ensures { IfOk result (AreInnerRows graph.now shape.now.levels (cell_map cells.now) (length shape.now.levels)) }
 {
     let mut inner = [[None; 48]; 3];
@@ -70,7 +70,7 @@ fn inner_classes(
     Ok(inner)
 }
 
-/// The classes of the locations of a listed loop without cells.
+/// The classes of the locations of a listed loop.
 pub fn classes(
     alloc: Global,
     shape: &LoopShape,
@@ -78,8 +78,8 @@ pub fn classes(
     cells: &Cells,
 ) -> Result<Classes, ClassErr>
     requires graph { IsInOrder graph.now }
+    requires cells { AreNumbered cells.now }
     requires nest { AreNest graph.now shape.now.levels }
-    requires no_cells { HasNoCells cells.now }
     ensures ok { IfOk result (AreClasses graph.now shape.now.levels (cell_map cells.now)) }
     ensures err { IfErr result (IsRefusal graph.now shape.now.levels (cell_map cells.now)) }
 {

@@ -1,7 +1,7 @@
 ghost use Rattle.std.specs.Prelude.{ℕ, ◌≡◌, ◌≢◌, ◌<◌, length, IfOk, IfErr};
 ghost use Rattle.std.specs.List.{All};
 ghost use Rattle.std.specs.List.Sorted.{IsStrictlyIncreasing};
-ghost use Rattle.linear_forms.specs.Locations.{IsLocation};
+ghost use Rattle.linear_forms.specs.Locations.{location_of, IsLocation};
 ghost use Rattle.induction.specs.declared.writers.Writers.{Writers};
 ghost use Rattle.induction.specs.declared.writers.Writers.TheVariants.{Nowhere};
 ghost use Rattle.induction.specs.Words.{AreSized};
@@ -14,7 +14,19 @@ use crate::writers::{Writers, which_write};
 use linear_forms::Loc;
 use loop_data::{Class, Level};
 
-/// The class of a register that these words of the root write; or the register, where it is carried.
+/// The location of a number.
+fn location(r: usize) -> Loc
+    requires { r < 48 }
+    ensures { result ≡ location_of r }
+{
+    if r < 32 {
+        Loc::Reg(r as u8)
+    } else {
+        Loc::Cell((r - 32) as u8)
+    }
+}
+
+/// The class of a location that these words of the root write; or the location, where it is carried.
 fn written_class(
     levels: &[Level],
     level: &Level,
@@ -25,9 +37,9 @@ fn written_class(
     requires levels { All (λ l. IsStrictlyIncreasing l.body) levels.now }
     requires level { IsStrictlyIncreasing level.now.body }
     requires sized { AreSized level.now.body words.now }
-    requires writers { AreWriters words.now.flow.instrs.items (length level.now.body) r by }
+    requires writers { AreWriters words.now.flow (length level.now.body) r by }
     requires some { by ≢ Nowhere }
-    requires location { r < 32 }
+    requires location { r < 48 }
     ensures ok { IfOk result (TellsClass levels.now level.now words.now r) }
     ensures err { IfErr result (IsCarriedAt levels.now level.now words.now r) }
 {
@@ -37,13 +49,13 @@ fn written_class(
             if is_private(words, r) {
                 Ok(Some(Class::Private))
             } else {
-                Err(Loc::Reg(r as u8))
+                Err(location(r))
             }
         }
     }
 }
 
-/// The class of a register in the root; or the register, where it is carried.
+/// The class of a location in the root; or the location, where it is carried.
 fn root_class(
     levels: &[Level],
     level: &Level,
@@ -53,17 +65,17 @@ fn root_class(
     requires levels { All (λ l. IsStrictlyIncreasing l.body) levels.now }
     requires level { IsStrictlyIncreasing level.now.body }
     requires sized { AreSized level.now.body words.now }
-    requires location { r < 32 }
+    requires location { r < 48 }
     ensures ok { IfOk result (TellsClass levels.now level.now words.now r) }
     ensures err { IfErr result (IsCarriedAt levels.now level.now words.now r) }
 {
-    match which_write(words.flow.instrs.as_slice(), r) {
+    match which_write(&words.flow, r) {
         Writers::Nowhere => Ok(None),
         by => written_class(levels, level, words, r, by),
     }
 }
 
-/// The classes of the registers in the root; or the least register that it carries.
+/// The classes of the locations in the root; or the least that it carries.
 pub fn root_row(levels: &[Level], level: &Level, words: &Words) -> Result<[Option<Class>; 48], Loc>
     requires levels { All (λ l. IsStrictlyIncreasing l.body) levels.now }
     requires level { IsStrictlyIncreasing level.now.body }
@@ -72,7 +84,7 @@ pub fn root_row(levels: &[Level], level: &Level, words: &Words) -> Result<[Optio
     ensures err { IfErr result (IsLeastAt levels.now level.now words.now) }
 {
     let mut row = [None; 48];
-    for r in 1..32 {
+    for r in 1..48 {
         let class = match root_class(levels, level, words, r) {
             Ok(class) => class,
             Err(loc) => return Err(loc),
@@ -82,15 +94,15 @@ pub fn root_row(levels: &[Level], level: &Level, words: &Words) -> Result<[Optio
     Ok(row)
 }
 
-/// The class of a register in an inner loop, where it is an induction of that.
+/// The class of a location in an inner loop, where it is an induction of that.
 fn inner_class(levels: &[Level], level: &Level, words: &Words, r: usize) -> Option<Class>
     requires levels { All (λ l. IsStrictlyIncreasing l.body) levels.now }
     requires level { IsStrictlyIncreasing level.now.body }
     requires sized { AreSized level.now.body words.now }
-    requires location { r < 32 }
+    requires location { r < 48 }
     ensures { TellsInner levels.now level.now words.now r result }
 {
-    let by = which_write(words.flow.instrs.as_slice(), r);
+    let by = which_write(&words.flow, r);
     match step_for(levels, level, words, r, by) {
         Some(step) => Some(Class::Induction(step)),
         None => None,
@@ -105,7 +117,7 @@ pub fn inner_row(levels: &[Level], level: &Level, words: &Words) -> [Option<Clas
     ensures { TellsInnerRow levels.now level.now words.now result }
 {
     let mut row = [None; 48];
-    for r in 1..32 {
+    for r in 1..48 {
         row[r] = inner_class(levels, level, words, r);
     }
     row

@@ -2,16 +2,15 @@ ghost use Rattle.std.specs.Prelude.{ℕ, ◌≡◌, ◌<◌, [], true, false, le
 ghost use Rattle.std.specs.List.Sorted.{IsStrictlyIncreasing};
 ghost use Rattle.loop_data.specs.declared.shape.Level.{Level};
 ghost use Rattle.loop_data.specs.LoopWords.{AreNest};
-ghost use Rattle.loop_data.specs.Lookups.{HasNoCells};
+ghost use Rattle.loop_data.specs.Lookups.{cell_map, AreNumbered};
 ghost use Rattle.loop_data.specs.Paths.{IsInOrder};
 ghost use Rattle.induction.specs.Masks.{IsMaskPast};
 ghost use Rattle.induction.specs.Words.{AreLoopWordsAt, IsPrivateAt, IsNotPrivateAt};
 
-use crate::masks::{contains, masks_of, with};
+use crate::masks::{after, contains, masks_of};
 use crate::writers::reads_first;
 use loop_data::flow::{Flow, loop_flow, place_of};
 use loop_data::{Cells, Graph, LoopShape, Values, value_pass};
-use rv64_decode::Instr;
 use std::alloc::{AllocError, Global};
 
 /// The words of a loop with what is known at each of them, by their places in its body.
@@ -21,21 +20,22 @@ pub struct Words {
     pub flow: Flow,
     /// What is known of each location before each word.
     pub points: Vec<Values>,
-    /// The registers that each way from the header to each word writes.
+    /// The locations that each way from the header to each word writes.
     pub masks: Vec<u64>,
-    /// The registers that each pass writes.
+    /// The locations that each pass writes.
     pub always: u64,
 }
 
-/// The registers that are written on all ways past the word at an address.
-fn mask_past(instrs: &[Option<Instr>], masks: &[u64], body: &[u64], x: u64) -> u64
+/// The locations that are written on all ways past the word at an address.
+fn mask_past(flow: &Flow, masks: &[u64], body: &[u64], x: u64) -> u64
     requires ordered { IsStrictlyIncreasing body.now }
-    requires instrs { length instrs.now ≡ length body.now }
+    requires instrs { length flow.now.instrs.items ≡ length body.now }
+    requires uses { length flow.now.uses.items ≡ length body.now }
     requires masks { length masks.now ≡ length body.now }
-    ensures { IsMaskPast instrs.now masks.now body.now x result }
+    ensures { IsMaskPast flow.now masks.now body.now x result }
 {
     match place_of(body, x) {
-        Some(p) => with(masks[p], &instrs[p]),
+        Some(p) => after(flow, masks, p),
         None => 0,
     }
 }
@@ -49,23 +49,18 @@ pub fn words_of(
     cells: &Cells,
 ) -> Result<Words, AllocError>
     requires graph { IsInOrder graph.now }
+    requires cells { AreNumbered cells.now }
     requires nest { AreNest graph.now shape.now.levels }
     requires within { level < length shape.now.levels }
-    requires no_cells { HasNoCells cells.now }
-    ensures { IfOk result (AreLoopWordsAt graph.now shape.now.levels level) }
+    ensures { IfOk result (AreLoopWordsAt graph.now (cell_map cells.now) shape.now.levels level) }
 {
     let levels = shape.levels.as_slice();
-    let flow = loop_flow(alloc, graph, levels, level)?;
+    let flow = loop_flow(alloc, graph, cells, levels, level)?;
     let points = value_pass(alloc, shape, level as u32, graph, cells)?;
     let loop_level = &levels[level];
     let body = loop_level.body.as_slice();
     let masks = masks_of(alloc, &flow, body, loop_level.header)?;
-    let always = mask_past(
-        flow.instrs.as_slice(),
-        masks.as_slice(),
-        body,
-        loop_level.back,
-    );
+    let always = mask_past(&flow, masks.as_slice(), body, loop_level.back);
     Ok(Words {
         flow,
         points,
@@ -74,15 +69,16 @@ pub fn words_of(
     })
 }
 
-/// Whether each pass writes a register, and before any read of it.
+/// Whether each pass writes a location, and before any read of it.
 pub fn is_private(words: &Words, r: usize) -> bool
     requires count { length words.now.masks.items ≡ length words.now.flow.instrs.items }
-    requires location { r < 32 }
+    requires uses { length words.now.flow.uses.items ≡ length words.now.flow.instrs.items }
+    requires location { r < 48 }
     ensures yes { result ≡ true → IsPrivateAt words.now r }
     ensures no { result ≡ false → IsNotPrivateAt words.now r }
 {
     if !contains(words.always, r) {
         return false;
     }
-    !reads_first(words.flow.instrs.as_slice(), words.masks.as_slice(), r)
+    !reads_first(&words.flow, words.masks.as_slice(), r)
 }

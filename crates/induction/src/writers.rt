@@ -1,10 +1,11 @@
 ghost use Rattle.std.specs.Prelude.{ℕ, ◌≡◌, ◌<◌, true, false, length, slice_index};
-ghost use Rattle.loop_data.specs.Locations.{word_reads, reads_register, no_cells};
-ghost use Rattle.induction.specs.Masks.{IsReadFirst, AreWrittenFirst};
+ghost use Rattle.loop_data.specs.Locations.{reads_register, reads_cell, instr_reads};
+ghost use Rattle.induction.specs.Masks.{place_writes, place_reads, IsReadFirst, AreWrittenFirst};
 ghost use Rattle.induction.specs.Writers.{with_writer, AreWriters};
 
 use crate::masks::contains;
-use loop_data::value_rows::word_writes as writes_at;
+use loop_data::Flow;
+use loop_data::value_rows::instr_writes;
 use rv64_decode::Instr;
 
 /// Which words of a loop write a location.
@@ -33,19 +34,29 @@ impl Writers {
     }
 }
 
-/// Which words write a register.
-pub fn which_write(instrs: &[Option<Instr>], r: usize) -> Writers
-    ensures { AreWriters instrs.now (length instrs.now) r result }
+/// Whether the word at a place writes a location.
+fn writes_at(flow: &Flow, p: usize, r: usize) -> bool
+    requires within { p < length flow.now.instrs.items }
+    requires uses { length flow.now.uses.items ≡ length flow.now.instrs.items }
+    ensures { result ≡ place_writes flow.now p r }
+{
+    instr_writes(&flow.instrs[p], flow.uses[p], r)
+}
+
+/// Which words write a location.
+pub fn which_write(flow: &Flow, r: usize) -> Writers
+    requires uses { length flow.now.uses.items ≡ length flow.now.instrs.items }
+    ensures { AreWriters flow.now (length flow.now.instrs.items) r result }
 {
     let mut found = Writers::Nowhere;
-    for p in 0..instrs.len() {
-        found = found.with(p, writes_at(0, &instrs[p], r));
+    for p in 0..flow.instrs.len() {
+        found = found.with(p, writes_at(flow, p, r));
     }
     found
 }
 
 /// Whether an instruction reads a register.
-fn instr_reads(instr: &Instr, r: u8) -> bool
+fn reads_register(instr: &Instr, r: u8) -> bool
     ensures { result ≡ reads_register instr.now r }
 {
     match *instr {
@@ -84,26 +95,54 @@ fn instr_reads(instr: &Instr, r: u8) -> bool
     }
 }
 
-/// Whether a word reads a register.
-fn reads(instr: &Option<Instr>, r: usize) -> bool
-    requires { r < 32 }
-    ensures { result ≡ word_reads no_cells 0 instr.now r }
+/// Whether an instruction that accesses this cell, if any, reads the cell at a location.
+fn reads_cell(instr: &Instr, cell: Option<u8>, r: usize) -> bool
+    ensures { result ≡ reads_cell instr.now cell r }
+{
+    match (*instr, cell) {
+        (
+            Instr::Load {
+                op: _,
+                rd: _,
+                rs1: _,
+                imm: _,
+            },
+            Some(k),
+        ) => 32 + k as usize == r,
+        _ => false,
+    }
+}
+
+/// Whether a word that accesses this cell, if any, reads a location.
+fn reads(instr: &Option<Instr>, cell: Option<u8>, r: usize) -> bool
+    ensures { result ≡ instr_reads instr.now cell r }
 {
     match instr {
-        Some(instr) => instr_reads(instr, r as u8),
+        Some(instr) if r < 32 => reads_register(instr, r as u8),
+        Some(instr) => reads_cell(instr, cell, r),
         None => false,
     }
 }
 
-/// Whether a word reads a register that a way to it may not have written.
-pub fn reads_first(instrs: &[Option<Instr>], masks: &[u64], r: usize) -> bool
-    requires count { length masks.now ≡ length instrs.now }
-    requires register { r < 32 }
-    ensures yes { result ≡ true → IsReadFirst instrs.now masks.now r }
-    ensures no { result ≡ false → AreWrittenFirst instrs.now masks.now r }
+/// Whether the word at a place reads a location.
+fn reads_at(flow: &Flow, p: usize, r: usize) -> bool
+    requires within { p < length flow.now.instrs.items }
+    requires uses { length flow.now.uses.items ≡ length flow.now.instrs.items }
+    ensures { result ≡ place_reads flow.now p r }
 {
-    for p in 0..instrs.len() {
-        if reads(&instrs[p], r) && !contains(masks[p], r) {
+    reads(&flow.instrs[p], flow.uses[p], r)
+}
+
+/// Whether a word reads a location that a way to it may not have written.
+pub fn reads_first(flow: &Flow, masks: &[u64], r: usize) -> bool
+    requires count { length masks.now ≡ length flow.now.instrs.items }
+    requires uses { length flow.now.uses.items ≡ length flow.now.instrs.items }
+    requires location { r < 48 }
+    ensures yes { result ≡ true → IsReadFirst flow.now masks.now r }
+    ensures no { result ≡ false → AreWrittenFirst flow.now masks.now r }
+{
+    for p in 0..flow.instrs.len() {
+        if reads_at(flow, p, r) && !contains(masks[p], r) {
             return true;
         }
     }

@@ -1,26 +1,23 @@
 -- The law of the pass over facts, by one induction over the visits of a walk.
-use Rattle.std.proofs.Common.{◌≡◌, ◌≢◌, ℕ, zero, suc, ◌<◌, ◌≤◌, ◌⊎◌, inl, inr, Bool, true, false, Option, Some, None, refl, ap, sym, ◌∙◌, subst, arith, if◌then◌else◌, ◌==◌, List, pos, ℤ, ◌+ℤ◌}
+use Rattle.std.proofs.Common.{◌≡◌, ◌≢◌, ℕ, zero, suc, ◌<◌, ◌≤◌, ◌⊎◌, inl, inr, Bool, true, false, Option, Some, None, refl, ap, sym, ◌∙◌, subst, arith, if◌then◌else◌, ◌==◌, pos, ℤ, ◌+ℤ◌}
 use Rattle.std.proofs.lemmas.Int.{ints}
-use Rattle.rv64_decode.specs.declared.instr.Instr.{Instr}
 use Rattle.rv64_decode.specs.declared.outcome.Next.TheVariants.{At}
 use Rattle.linear_forms.specs.Forms.{Alike}
 use Rattle.linear_forms.proofs.Sums.{alike_from}
-use Rattle.loop_data.specs.declared.graph.Graph.{Graph}
 use Rattle.loop_data.specs.declared.shape.Level.{Level}
 use Rattle.loop_data.specs.Nests.{Nest, has, In, levels, Among, Edge, IsNest, nest_of}
-use Rattle.loop_data.specs.LoopWords.{AreNest}
 use Rattle.rv64_decode.specs.declared.outcome.Next.{Next}
 use Rattle.loop_data.specs.Runs.{State, run, walk, goes_at}
 use Rattle.loop_data.specs.Turns.{turn, IsArrival}
-use Rattle.loop_data.specs.Locations.{no_cells}
-use Rattle.loop_data.specs.LoopCode.{LoopCode, writes, code_of, is_location, IsUnwritten, IsWritten, IsForwardIn, LiesIn}
+use Rattle.loop_data.specs.LoopCode.{LoopCode, writes, code_of, is_location, IsUnwritten, LiesIn}
 use Rattle.loop_data.specs.Facts.{Fact, Number, Offset, fact_after}
 use Rattle.loop_data.specs.FactPass.{IsKeptAt, AreFacts}
-use Rattle.loop_data.specs.Executing.{AreProgramWords, Executes, value_at, arrival}
-use Rattle.loop_data.specs.FactLaws.{fact_value, KeepsBits, FactsHoldAt}
+use Rattle.loop_data.specs.Executing.{AreCellWords, Executes, AreAtCells, LeavesCells, value_at, arrival, IsOf32Bits}
+use Rattle.loop_data.specs.FactLaws.{fact_value, KeepsBits, FactsHoldAt, FactLaw}
 use Rattle.loop_data.proofs.Tests.{eq_of, ne_of, true_or_false, not_true}
-use Rattle.loop_data.proofs.NestVisits.{goes_here, goes_to, AreGiven, are_given, IsInside, edge_in, is_inside_less, visit_in, here_in, walks_in, header_or, entering_edge}
-use Rattle.loop_data.proofs.FormWords.{plain_code, kept_at}
+use Rattle.loop_data.proofs.NestVisits.{goes_here, goes_to, AreGiven, are_given, IsInside, edge_in, is_inside_less, visit_in, here_in, holds_in, walks_in, header_or, entering_edge}
+use Rattle.loop_data.proofs.CellVisits.{on_cells}
+use Rattle.loop_data.proofs.FormWords.{kept_at}
 use Rattle.loop_data.proofs.FactWords.{fact_right_at}
 
 -- what words do to locations, as the pass sees it
@@ -135,11 +132,11 @@ seen_at N l P V pc value (suc n) nest among vs inside z does = go (true_or_false
         seen_next N l P V pc value n nest among vs (edge_in N l pc n inside) (ne_of (pc (suc n)) l.header e) a
         (each n (arrived_below l pc n) (omega arith)) (before (λ m le lt. each m le (omega arith)))
 
-abbrev passing_of : LoopCode → Passing
+abbrev pub passing_of : LoopCode → Passing
 passing_of B = record { writes = writes B; after = fact_after B }
 
 -- the equations of a loop's pass, read from a word back
-are_passed : (N : Nest) (B : LoopCode) (l : Level) (V : ℕ → ℕ → Option Fact) → IsNest N → Among N l → AreFacts N B l V → ArePassed N l (passing_of B) V
+pub are_passed : (N : Nest) (B : LoopCode) (l : Level) (V : ℕ → ℕ → Option Fact) → IsNest N → Among N l → AreFacts N B l V → ArePassed N l (passing_of B) V
 are_passed N B l V nest among fs = record { first = first; inner = inner; met = met }
   where
     first : (r : ℕ) (x : Fact) → V l.header r ≡ Some x → (x ≡ Offset r (pos 0)) ⊎ ((r ≡ 0) × (x ≡ Number (pos 0)))
@@ -192,34 +189,31 @@ arrival_is l s (suc n) at =
     ∙ ap (λ m. if goes_at (λ pc. pc == l.header) (run s (suc n)).next then suc n else m) (arrival_is l s n (λ m le. at m (omega arith)))
 
 -- each location with a fact has the value that it gives
-facts_at : (N : Nest) (code : ℕ → Option Instr) (l : Level) (V : ℕ → ℕ → Option Fact) (s : State) (n : ℕ) → IsNest N → AreGiven N (plain_code code) → Among N l → AreFacts N (plain_code code) l V
-    → Executes l (plain_code code) s n → KeepsBits l (plain_code code) V s n → FactsHoldAt l no_cells V s n
-facts_at N code l V s n nest given among fs e keeps r x k =
-    subst (λ m. Alike (value_at no_cells s n r) (fact_value (value_at no_cells s m) x)) same
-    ((seen_at N l (passing_of B) V (walk s) (value_at no_cells s) n nest among (are_passed N B l V nest among fs) (walks_in N B given l within s n e) (λ m. refl) does).holds r x k)
+facts_at : (N : Nest) (B : LoopCode) (l : Level) (V : ℕ → ℕ → Option Fact) (s : State) (n : ℕ) → IsNest N → AreGiven N B → Among N l → AreFacts N B l V → AreCellWords l B
+    → Executes l B s n → AreAtCells B.cells s n → LeavesCells B.cells s n → KeepsBits l B V s n → FactsHoldAt l B.cells V s n
+facts_at N B l V s n nest given among fs uses e own leaves keeps r x k =
+    subst (λ m. Alike (value_at B.cells s n r) (fact_value (value_at B.cells s m) x)) same
+    ((seen_at N l (passing_of B) V (walk s) (value_at B.cells s) n nest among (are_passed N B l V nest among fs) (walks_in N B given l within s n e) (λ m. refl) does).holds r x k)
   where
-    B : LoopCode
-    B = plain_code code
-
     within : (y : ℕ) → has l.body y ≡ true → has N.root.body y ≡ true
     within = let b = nest.bodies in b.within l among
 
     same : arrived l (walk s) n ≡ arrival l s n
     same = arrival_is l s n (here_in N B given l within s n e)
 
-    does : (m : ℕ) → arrived l (walk s) n ≤ m → m < n → Passes (passing_of B) V (walk s) (value_at no_cells s (arrived l (walk s) n)) (value_at no_cells s) m
+    does : (m : ℕ) → arrived l (walk s) n ≤ m → m < n → Passes (passing_of B) V (walk s) (value_at B.cells s (arrived l (walk s) n)) (value_at B.cells s) m
     does m le lt =
         let v = visit_in N B given l within s n e m lt in
+        let on = on_cells l B s n m uses own leaves lt (holds_in N B given l within s n e m (omega arith)) v (e.words m lt ∙ v.is) in
         record {
-          right = λ holds r x f. fact_right_at code s m v (V (walk s m)) (value_at no_cells s (arrived l (walk s) n)) holds r x
-              (λ i w q z p. subst (λ j. Rattle.loop_data.specs.Executing.IsOf32Bits (value_at no_cells s j q +ℤ z)) (sym same) (keeps m r q z (subst (λ j. j ≤ m) same le) lt i w (f ∙ ap Some p))) f;
-          kept = kept_at code s m v;
+          right = λ holds r x f. fact_right_at B s m v on (V (walk s m)) (value_at B.cells s (arrived l (walk s) n)) holds r x
+              (λ i w q z p. subst (λ j. IsOf32Bits (value_at B.cells s j q +ℤ z)) (sym same) (keeps m r q z (subst (λ j. j ≤ m) same le) lt i w (f ∙ ap Some p))) f;
+          kept = kept_at B s m v on;
         }
 
-pub fact_law : (G : Graph) (ls : List Level) (nest : AreNest G ls) → AreProgramWords G → (l : Level) (V : ℕ → ℕ → Option Fact) (s : State) (n : ℕ) → Among (nest_of G nest.root nest.inner) l
-    → AreFacts (nest_of G nest.root nest.inner) (code_of G no_cells) l V → Executes l (code_of G no_cells) s n
-    → KeepsBits l (code_of G no_cells) V s n → FactsHoldAt l no_cells V s n
-fact_law G ls nest words l V s n among = facts_at (nest_of G nest.root nest.inner) (Rattle.loop_data.specs.LoopCode.instr_among G.words) l V s n nest.nest (are_given G ls nest no_cells words) among
+pub fact_law : FactLaw
+fact_law G ls nest words C l V s n among =
+    facts_at (nest_of G nest.root nest.inner) (code_of G C) l V s n nest.nest (are_given G ls nest C words) among
 
 arrives_at : (x : Next) (h : ℕ) → goes_at (λ pc. pc == h) x ≡ true → x ≡ At h
 arrives_at x h e = goes_here (λ pc. pc == h) x e ∙ ap At (eq_of _ _ (goes_to (λ pc. pc == h) x e))

@@ -4,11 +4,12 @@ use Rattle.std.proofs.lemmas.Int.{ints}
 use Rattle.std.proofs.lemmas.Bool.Decides.{nat_tests}
 use Rattle.std.proofs.lemmas.List.{get_or-set_same, get_or-set_other}
 use Rattle.std.specs.Int.{w64, cast_unsigned}
-use Rattle.rv64_decode.specs.Ask.{answer}
+use Rattle.rv64_decode.specs.Area.{Area, load_of}
+use Rattle.rv64_decode.specs.Ask.{answer, after}
 use Rattle.rv64_decode.specs.Form.{IsSigned}
 use Rattle.rv64_decode.specs.Range.{IsInRange, AreWords}
 use Rattle.rv64_decode.specs.Registers.{register, with_register}
-use Rattle.rv64_decode.specs.Row.{row, asks, alu, alu_imm, upper, extended32, low32, next_pc, plus_offset, onward, jump, stopped, loaded, stored, taken}
+use Rattle.rv64_decode.specs.Row.{row, asks, alu, alu_imm, upper, extended32, low32, load_width, next_pc, plus_offset, onward, jump, stopped, loaded, stored, taken}
 use Rattle.rv64_decode.specs.declared.memory.MemFault.{MemFault}
 use Rattle.rv64_decode.specs.declared.outcome.Fault.TheVariants.{Target}
 use Rattle.rv64_decode.specs.declared.outcome.Next.TheVariants.{At}
@@ -21,18 +22,21 @@ use Rattle.rv64_decode.specs.declared.instr.ImmOp.TheVariants.{Addi, Slli, Addiw
 use Rattle.rv64_decode.specs.declared.instr.UpperOp.{UpperOp}
 use Rattle.rv64_decode.specs.declared.instr.UpperOp.TheVariants.{Lui, Auipc}
 use Rattle.rv64_decode.specs.declared.instr.LoadOp.{LoadOp}
+use Rattle.rv64_decode.specs.declared.instr.StoreOp.{StoreOp}
 use Rattle.rv64_decode.proofs.Sound.{register_below}
 use Rattle.linear_forms.specs.Forms.{Alike, EntryTerm, LinearForm, weight, exact, is_zero, pure, sum_of, difference, multiple, limited}
 use Rattle.linear_forms.proofs.Sums.{same, alike_from, alike_trans, alike_sym, alike_add, alike_sub, alike_times, alike_mod, exact-sum, exact-difference, exact-multiple, exact-pure, limited_is}
-use Rattle.loop_data.specs.Locations.{CellMap, no_cells, first_cell, value_of, target, writes_register, writes_cell}
+use Rattle.loop_data.specs.declared.verdict.Cell.{Cell}
+use Rattle.loop_data.specs.Locations.{CellMap, first_cell, cell_at, address, content, held, value_of, target, writes_register, writes_cell, instr_writes}
 use Rattle.loop_data.specs.LoopCode.{LoopCode, writes}
 use Rattle.loop_data.specs.Facts.{signed_of, short_of}
-use Rattle.loop_data.specs.FormRows.{form_read, form_sum, form_difference, form_multiple, form_shifted, is_empty, is_pure, is_factor, form_product, form_limited, form_short, form_owed, alu_form, imm_form, upper_form, register_form, stored_form, written_form, form_after, alu_duty, imm_duty, duty_by, duty_from, duty}
+use Rattle.loop_data.specs.FormRows.{form_read, form_sum, form_difference, form_multiple, form_shifted, is_empty, is_pure, is_factor, form_product, form_limited, form_short, form_owed, alu_form, imm_form, upper_form, register_form, stored_form, written_form, form_after, alu_duty, imm_duty, duty_by, duty_from, duty, cell_form, store_form, store_duty}
 use Rattle.loop_data.specs.Runs.{State, run, walk}
 use Rattle.loop_data.specs.Executing.{IsOf32Bits, value_at}
 use Rattle.loop_data.proofs.Tests.{ne_of, is_ne, and_true}
 use Rattle.loop_data.proofs.Shorts.{extended_low, extended_short, addw_is, subw_is, sllw_is, low_product, alike_word, alike_signed_of}
 use Rattle.loop_data.proofs.NestVisits.{Visit}
+use Rattle.loop_data.proofs.CellWords.{store_of_cell, IsOwn, OnCells, loaded_cell, stored_cell, cell_kept, writer_of}
 
 -- the number is the form's value
 abbrev pub Right : (ℕ → ℤ) → (ℕ → ℕ) → ℕ → Option LinearForm → Type 0
@@ -255,90 +259,140 @@ owes : (A : Type 0) (rd r : ℕ) (x y : A) (P : A → Type 0) → r ≢ 0 → rd
 owes A rd r x y P ne e p = subst (λ b. P (if b then x else y)) (is_ne rd 0 (λ z. ne (sym e ∙ z))) p
 
 -- the form that a word writes to a register is right
-right_written : (entry : ℕ → ℤ) (t : ℕ → ℕ) (u r : ℕ) (i : Instr) (regs : List ℕ) (told : Result ℕ MemFault) (F : ℕ → Option LinearForm) → IsInRange i → AreWords regs
-    → ((q : ℕ) → q < 32 → Right entry t (register regs q) (form_read F q)) → IsMet entry t (duty_by i None F)
-    → r ≢ 0 → target i ≡ r → Right entry t (register (row i u regs told).regs r) (register_form u i None F)
-right_written entry t u r (Alu op rd rs1 rs2) regs told F d ok all met ne e =
+right_written : (C : CellMap) (entry : ℕ → ℤ) (t : ℕ → ℕ) (u r : ℕ) (i : Instr) (first regs : List ℕ) (m : List Area) (F : ℕ → Option LinearForm) → IsInRange i → AreWords regs
+    → ((q : ℕ) → q < 32 → Right entry t (register regs q) (form_read F q)) → ((k : ℕ) → Right entry t (held first (cell_at C.cells k) m) (F (first_cell + k))) → OnCells C u i first regs m
+    → IsMet entry t (duty_by i (C.uses u) F) → r ≢ 0 → target i ≡ r → Right entry t (register (row i u regs (answer m (asks i regs))).regs r) (register_form u i (C.uses u) F)
+right_written C entry t u r (Alu op rd rs1 rs2) first regs m F d ok all cells on met ne e =
     let b = register_below regs rs2 ok in
     let g = d.registers in
     right_register entry t r rd (alu op (register regs rs1) (register regs rs2)) regs (alu_form op (form_read F rs1) (form_read F rs2)) ne e g.0 ok
     (right_alu entry t op _ _ _ _ (omega arith) (owes (Option LinearForm) rd r None (alu_duty op (form_read F rs1) (form_read F rs2)) (IsMet entry t) ne e met) (all rs1 g.1) (all rs2 g.2))
-right_written entry t u r (AluImm op rd rs1 imm) regs told F d ok all met ne e =
+right_written C entry t u r (AluImm op rd rs1 imm) first regs m F d ok all cells on met ne e =
     let g = d.registers in
     right_register entry t r rd (alu_imm op (register regs rs1) imm) regs (imm_form op (form_read F rs1) imm) ne e g.0 ok
     (right_imm entry t op _ _ imm d.number (owes (Option LinearForm) rd r None (imm_duty op (form_read F rs1) imm) (IsMet entry t) ne e met) (all rs1 g.1))
-right_written entry t u r (Upper op rd imm) regs told F d ok all met ne e =
+right_written C entry t u r (Upper op rd imm) first regs m F d ok all cells on met ne e =
     right_register entry t r rd (upper op u imm) regs (upper_form op u imm) ne e d.registers ok (right_upper entry t op u imm d.number)
-right_written entry t u r (Load op rd rs1 imm) regs told F d ok all met ne e = λ f k. absurd (cc)
-right_written entry t u r (Store op rs1 rs2 imm) regs told F d ok all met ne e = λ f k. absurd (cc)
-right_written entry t u r (Branch op rs1 rs2 imm) regs told F d ok all met ne e = λ f k. absurd (cc)
-right_written entry t u r (Jal rd imm) regs told F d ok all met ne e = λ f k. absurd (cc)
-right_written entry t u r (Jalr rd rs1 imm) regs told F d ok all met ne e = λ f k. absurd (cc)
-right_written entry t u r (Fence rd rs1 imm) regs told F d ok all met ne e = λ f k. absurd (cc)
-right_written entry t u r Ecall regs told F d ok all met ne e = λ f k. absurd (cc)
-right_written entry t u r Ebreak regs told F d ok all met ne e = λ f k. absurd (cc)
+right_written C entry t u r (Load op rd rs1 imm) first regs m F d ok all cells on met ne e = go (C.uses u) on.own
+  where
+    x : ℕ
+    x = plus_offset (register regs rs1) imm
 
--- no cell is written where there is none
-pub no_cell : (i : Instr) (r : ℕ) → writes_cell i None r ≡ false
-no_cell (Store op rs1 rs2 imm) r = refl
-no_cell (Alu op rd rs1 rs2) r = refl
-no_cell (AluImm op rd rs1 imm) r = refl
-no_cell (Upper op rd imm) r = refl
-no_cell (Load op rd rs1 imm) r = refl
-no_cell (Branch op rs1 rs2 imm) r = refl
-no_cell (Jal rd imm) r = refl
-no_cell (Jalr rd rs1 imm) r = refl
-no_cell (Fence rd rs1 imm) r = refl
-no_cell Ecall r = refl
-no_cell Ebreak r = refl
+    go : (uses : Option ℕ) → ((k : ℕ) → uses ≡ Some k → (c : Cell) × (cell_at C.cells k ≡ Some c) × IsOwn (Load op rd rs1 imm) first regs m c)
+        → Right entry t (register (loaded op rd x u regs (load_of m x (load_width op))).regs r) (cell_form uses F)
+    go None own = λ f k. absurd (cc)
+    go (Some k) own =
+        let o = own k refl in
+        let c = o.0 in
+        let v : Right entry t (content c.wide m (address first c)) (F (first_cell + k)) = subst (λ x. Right entry t (held first x m) (F (first_cell + k))) o.1 (cells k) in
+        subst (λ (x : List ℕ). Right entry t (register x r) (F (first_cell + k))) (sym (loaded_cell first regs m c op rd rs1 imm u o.2))
+        (right_register entry t r rd (content c.wide m (address first c)) regs (F (first_cell + k)) ne e (d.registers).0 ok v)
+right_written C entry t u r (Store op rs1 rs2 imm) first regs m F d ok all cells on met ne e = λ f k. absurd (cc)
+right_written C entry t u r (Branch op rs1 rs2 imm) first regs m F d ok all cells on met ne e = λ f k. absurd (cc)
+right_written C entry t u r (Jal rd imm) first regs m F d ok all cells on met ne e = λ f k. absurd (cc)
+right_written C entry t u r (Jalr rd rs1 imm) first regs m F d ok all cells on met ne e = λ f k. absurd (cc)
+right_written C entry t u r (Fence rd rs1 imm) first regs m F d ok all cells on met ne e = λ f k. absurd (cc)
+right_written C entry t u r Ecall first regs m F d ok all cells on met ne e = λ f k. absurd (cc)
+right_written C entry t u r Ebreak first regs m F d ok all cells on met ne e = λ f k. absurd (cc)
 
--- words without cells
-abbrev pub plain_code : (ℕ → Option Instr) → LoopCode
-plain_code code = record { instr = code; cells = no_cells }
+-- the form that a store writes to its cell is right
+right_stored : (C : CellMap) (entry : ℕ → ℤ) (t : ℕ → ℕ) (u j : ℕ) (i : Instr) (first regs : List ℕ) (m : List Area) (F : ℕ → Option LinearForm) → IsInRange i
+    → ((q : ℕ) → q < 32 → Right entry t (register regs q) (form_read F q)) → OnCells C u i first regs m → IsMet entry t (duty_by i (C.uses u) F)
+    → writes_cell i (C.uses u) (first_cell + j) ≡ true → Right entry t (held first (cell_at C.cells j) (after m (asks i regs))) (stored_form i F)
+right_stored C entry t u j i first regs m F d all on met w = by (writer_of i (C.uses u) j w)
+  where
+    by : (op : StoreOp) × (rs1 : ℕ) × (rs2 : ℕ) × (imm : ℤ) × (i ≡ Store op rs1 rs2 imm) × (C.uses u ≡ Some j) → Right entry t (held first (cell_at C.cells j) (after m (asks i regs))) (stored_form i F)
+    by x =
+        let op = x.0 in
+        let rs2 = x.2 in
+        let v = register regs rs2 in
+        let o = on.own j x.5 in
+        let c = o.0 in
+        let own : IsOwn (Store op x.1 rs2 x.3) first regs m c = subst (λ y. IsOwn y first regs m c) x.4 o.2 in
+        let owed : IsMet entry t (store_duty op (form_read F rs2)) = subst (λ y. IsMet entry t (duty_by y (Some j) F)) x.4 (subst (λ y. IsMet entry t (duty_by i y F)) x.5 met) in
+        let r2 : rs2 < 32 = (subst IsInRange x.4 d).registers.1 in
+        subst (λ y. Right entry t (held first (cell_at C.cells j) (after m (asks y regs))) (stored_form y F)) (sym x.4)
+        (subst (λ y. Right entry t (held first y (after m (asks (Store op x.1 rs2 x.3) regs))) (store_form op (form_read F rs2))) (sym o.1)
+        (subst (λ n. Right entry t n (store_form op (form_read F rs2))) (sym (stored_cell first regs m c op x.1 rs2 x.3 own))
+        (subst (λ p. Right entry t (if c.wide then v % 2 ^ 64 else extended32 (low32 v)) (store_form p (form_read F rs2))) (sym own.0)
+        (by_width c.wide (form_read F rs2) v (all rs2 r2) (subst (λ p. IsMet entry t (store_duty p (form_read F rs2))) own.0 owed)))))
+      where
+        by_width : (wide : Bool) (f : Option LinearForm) (v : ℕ) → Right entry t v f → IsMet entry t (store_duty (store_of_cell wide) f) → Right entry t (if wide then v % 2 ^ 64 else extended32 (low32 v)) (store_form (store_of_cell wide) f)
+        by_width true f v a met = λ g e. alike_trans _ _ _ (alike_mod v) (a g e)
+        by_width false f v a met = right_short entry t v f met a
 
-module _ (code : ℕ → Option Instr) (s : State) (m : ℕ) (v : Visit (plain_code code) s m) where
-  -- the registers after the visit
-  after : (r : ℕ) → value_at no_cells s (suc m) r ≡ pos (if nat_lt r first_cell then register (row v.does (walk s m) (run s m).regs (answer (run s m).memory (asks v.does (run s m).regs))).regs r else 0)
-  after r = ap (λ (x : State). pos (value_of no_cells s.regs x r)) v.next
+module _ (B : LoopCode) (s : State) (m : ℕ) (v : Visit B s m) (on : OnCells B.cells (walk s m) v.does s.regs (run s m).regs (run s m).memory) where
+  now : State
+  now = run s m
 
-  writes_is : (r : ℕ) → writes (plain_code code) (walk s m) r ≡ (if nat_lt r first_cell then writes_register v.does r else false)
-  writes_is r = ap (λ o. Rattle.loop_data.specs.Locations.word_writes no_cells (walk s m) o r) v.is ∙ ap (λ b. if nat_lt r first_cell then writes_register v.does r else b) (no_cell v.does r)
+  u : ℕ
+  u = walk s m
+
+  -- the value of a location after the visit
+  next_value : (b : Bool) (r : ℕ) → ℕ
+  next_value b r =
+      if b then register (row v.does (walk s m) (run s m).regs (answer (run s m).memory (asks v.does (run s m).regs))).regs r
+      else held s.regs (cell_at B.cells.cells (r - first_cell)) (after (run s m).memory (asks v.does (run s m).regs))
+
+  after_is : (r : ℕ) → value_at B.cells s (suc m) r ≡ pos (next_value (nat_lt r first_cell) r)
+  unfolding next_value
+  after_is r = ap (λ (x : State). pos (value_of B.cells s.regs x r)) v.next
+
+  writes_is : (r : ℕ) → writes B (walk s m) r ≡ (if nat_lt r first_cell then writes_register v.does r else writes_cell v.does (B.cells.uses (walk s m)) r)
+  writes_is r = ap (λ o. instr_writes o (B.cells.uses (walk s m)) r) v.is
+
+  number_of_cell : (r : ℕ) → nat_lt r first_cell ≡ false → first_cell + (r - first_cell) ≡ r
+  number_of_cell r e = grind (arith, nat_tests)
 
   -- a location that a visited word does not write
-  pub kept_at : (r : ℕ) → writes (plain_code code) (walk s m) r ≡ false → value_at no_cells s (suc m) r ≡ value_at no_cells s m r
-  kept_at r e = after r ∙ ap pos (go (nat_lt r first_cell) (sym (writes_is r) ∙ e))
+  pub kept_at : (r : ℕ) → writes B (walk s m) r ≡ false → value_at B.cells s (suc m) r ≡ value_at B.cells s m r
+  unfolding next_value
+  kept_at r e = after_is r ∙ ap pos (go (nat_lt r first_cell) refl (sym (writes_is r) ∙ e))
     where
-      go : (b : Bool) → (if b then writes_register v.does r else false) ≡ false
-          → (if b then register (row v.does (walk s m) (run s m).regs (answer (run s m).memory (asks v.does (run s m).regs))).regs r else 0) ≡ (if b then register (run s m).regs r else 0)
-      go true f = keeps v.does (walk s m) r (run s m).regs (answer (run s m).memory (asks v.does (run s m).regs)) f
-      go false f = refl
+      go : (b : Bool) → nat_lt r first_cell ≡ b → (if b then writes_register v.does r else writes_cell v.does (B.cells.uses (walk s m)) r) ≡ false
+          → next_value b r ≡ (if b then register (run s m).regs r else held s.regs (cell_at B.cells.cells (r - first_cell)) (run s m).memory)
+      go true q f = keeps v.does (walk s m) r (run s m).regs (answer (run s m).memory (asks v.does (run s m).regs)) f
+      go false q f =
+          cell_kept B.cells (walk s m) (r - first_cell) v.does s.regs (run s m).regs (run s m).memory on (ap (writes_cell v.does (B.cells.uses (walk s m))) (number_of_cell r q) ∙ f)
 
   -- what a visited word leaves in a location is what the forms say, where what it owes is met
-  pub right_at : (F : ℕ → Option LinearForm) (entry : ℕ → ℤ) (t : ℕ → ℕ) → ((r : ℕ) (f : LinearForm) → F r ≡ Some f → Alike (value_at no_cells s m r) (exact f entry t)) → (r : ℕ)
-      → (writes (plain_code code) (walk s m) r ≡ true → IsMet entry t (duty (plain_code code) (walk s m) F))
-      → (f : LinearForm) → form_after (plain_code code) (walk s m) F r ≡ Some f → Alike (value_at no_cells s (suc m) r) (exact f entry t)
-  right_at F entry t holds r met f k = by (writes (plain_code code) (walk s m) r) refl k
+  pub right_at : (F : ℕ → Option LinearForm) (entry : ℕ → ℤ) (t : ℕ → ℕ) → ((r : ℕ) (f : LinearForm) → F r ≡ Some f → Alike (value_at B.cells s m r) (exact f entry t)) → (r : ℕ)
+      → (writes B (walk s m) r ≡ true → IsMet entry t (duty B (walk s m) F))
+      → (f : LinearForm) → form_after B (walk s m) F r ≡ Some f → Alike (value_at B.cells s (suc m) r) (exact f entry t)
+  unfolding next_value
+  right_at F entry t holds r met f k = by (writes B (walk s m) r) refl k
     where
-      u : ℕ
-      u = walk s m
-
       registers : (q : ℕ) → q < 32 → Right entry t (register (run s m).regs q) (F q)
       registers q lt f e =
           let l : nat_lt q first_cell ≡ true = grind (arith, nat_tests) in
-          subst (λ x. Alike (pos x) (exact f entry t)) (ap (λ b. if b then register (run s m).regs q else 0) l) (holds q f e)
+          subst (λ x. Alike (pos x) (exact f entry t)) (ap (λ b. if b then register (run s m).regs q else held s.regs (cell_at B.cells.cells (q - first_cell)) (run s m).memory) l) (holds q f e)
 
       reads : (q : ℕ) → q < 32 → Right entry t (register (run s m).regs q) (form_read F q)
       reads q lt = right_read entry t (run s m).regs F q (registers q lt)
 
-      by : (w : Bool) → writes (plain_code code) (walk s m) r ≡ w → (if w then written_form (walk s m) (code (walk s m)) None r F else F r) ≡ Some f → Alike (value_at no_cells s (suc m) r) (exact f entry t)
+      cells : (j : ℕ) → Right entry t (held s.regs (cell_at B.cells.cells j) (run s m).memory) (F (first_cell + j))
+      cells j f e =
+          let l : nat_lt (first_cell + j) first_cell ≡ false = grind (arith, nat_tests) in
+          let z : (first_cell + j) - first_cell ≡ j = omega arith in
+          subst (λ x. Alike (pos x) (exact f entry t))
+          (ap (λ b. if b then register (run s m).regs (first_cell + j) else held s.regs (cell_at B.cells.cells ((first_cell + j) - first_cell)) (run s m).memory) l ∙ ap (λ n. held s.regs (cell_at B.cells.cells n) (run s m).memory) z)
+          (holds (first_cell + j) f e)
+
+      owed : writes B (walk s m) r ≡ true → IsMet entry t (duty_by v.does (B.cells.uses (walk s m)) F)
+      owed e = subst (λ o. IsMet entry t (duty_from o (B.cells.uses (walk s m)) F)) v.is (met e)
+
+      by : (w : Bool) → writes B (walk s m) r ≡ w → (if w then written_form (walk s m) (B.instr (walk s m)) (B.cells.uses (walk s m)) r F else F r) ≡ Some f → Alike (value_at B.cells s (suc m) r) (exact f entry t)
       by false e k = subst (λ x. Alike x (exact f entry t)) (sym (kept_at r e)) (holds r f k)
-      by true e k = subst (λ x. Alike x (exact f entry t)) (sym (after r)) (go (nat_lt r first_cell) refl (sym (writes_is r) ∙ e) (sym (ap (λ o. written_form (walk s m) o None r F) v.is) ∙ k))
+      by true e k =
+          subst (λ x. Alike x (exact f entry t)) (sym (after_is r))
+          (go (nat_lt r first_cell) refl (sym (writes_is r) ∙ e) (sym (ap (λ o. written_form (walk s m) o (B.cells.uses (walk s m)) r F) v.is) ∙ k))
         where
-          go : (b : Bool) → nat_lt r first_cell ≡ b → (if b then writes_register v.does r else false) ≡ true → (if b then register_form (walk s m) v.does None F else stored_form v.does F) ≡ Some f
-              → Alike (pos (if b then register (row v.does (walk s m) (run s m).regs (answer (run s m).memory (asks v.does (run s m).regs))).regs r else 0)) (exact f entry t)
+          go : (b : Bool) → nat_lt r first_cell ≡ b → (if b then writes_register v.does r else writes_cell v.does (B.cells.uses (walk s m)) r) ≡ true
+              → (if b then register_form (walk s m) v.does (B.cells.uses (walk s m)) F else stored_form v.does F) ≡ Some f → Alike (pos (next_value b r)) (exact f entry t)
           go true b w k =
               let ne : r ≢ 0 = grind (arith, nat_tests) in
               let q : target v.does ≡ r = grind (arith, nat_tests) in
-              right_written entry t (walk s m) r v.does (run s m).regs (answer (run s m).memory (asks v.does (run s m).regs)) F v.range v.registers reads
-              (subst (λ o. IsMet entry t (duty_from o None F)) v.is (met e)) ne q f k
-          go false b w k = absurd (cc)
+              right_written B.cells entry t (walk s m) r v.does s.regs (run s m).regs (run s m).memory F v.range v.registers reads cells on (owed e) ne q f k
+          go false b w k =
+              right_stored B.cells entry t (walk s m) (r - first_cell) v.does s.regs (run s m).regs (run s m).memory F v.range reads on (owed e)
+              (ap (writes_cell v.does (B.cells.uses (walk s m))) (number_of_cell r b) ∙ w) f k

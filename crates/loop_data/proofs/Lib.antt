@@ -20,8 +20,12 @@ pub mod Arounds
 pub mod Innermost
 pub mod NestVisits
 pub mod Strides
+pub mod CellBytes
+pub mod CellWords
+pub mod CellVisits
 pub mod FormWords
 pub mod Operands
+pub mod FactForms
 pub mod FactWords
 pub mod FactWalks
 pub mod Effects

@@ -1,5 +1,5 @@
 -- What a binary search finds among numbers that rise, and among words by their addresses.
-use Rattle.std.proofs.Common.{◌≡◌, ℕ, ◌<◌, ◌≤◌, ◌⊎◌, inl, inr, List, [], length, get_or, Ok, Err, sym, ◌∙◌, arith}
+use Rattle.std.proofs.Common.{◌≡◌, ℕ, zero, suc, ◌+◌, ◌<◌, ◌≤◌, ◌⊎◌, inl, inr, if◌then◌else◌, List, [], ◌∷◌, length, map, get_or, Some, None, Ok, Err, refl, ap, sym, ◌∙◌, arith}
 use Rattle.std.specs.List.{Contains}
 use Rattle.std.specs.List.Sorted.{IsStrictlyIncreasing, IsSearchInRange, IsBinarySearchResult, IsNonDecreasingBy}
 use Rattle.std.specs.Ordering.{nat_cmp, ordering_index}
@@ -10,6 +10,9 @@ use Rattle.std.proofs.lemmas.List.{get_or_default, get_or-map, length-map}
 use Rattle.std.proofs.lemmas.List.Sorted.{searched, IsNonDecreasingBy-from_default}
 use Rattle.loop_data.specs.declared.graph.Word.{Word}
 use Rattle.loop_data.specs.Paths.{addresses_of}
+use Rattle.loop_data.specs.Lookups.{use_of}
+use Rattle.std.proofs.lemmas.List.Kept.{AllPairs-from_increasing}
+use Rattle.loop_data.proofs.Tests.{is_eq, is_ne}
 use Rattle.loop_data.proofs.Lists.{rises}
 
 -- a number that lies between its neighbours is none of them
@@ -23,37 +26,60 @@ not_among xs i x low high c = below c.0 (get_or_default xs c.0 0 x c.1 ∙ c.2) 
 pub none_found : (xs : List ℕ) (x i : ℕ) → IsStrictlyIncreasing xs → IsBinarySearchResult (λ y. nat_cmp y x) xs (Err i) → Contains xs x → ⊥
 none_found xs x i up h = let s = searched xs x (Err i) h (rises xs up) in not_among xs i x s.1 s.2
 
+module _ {X : Type 0} (key : X → ℕ) (d : X) where
+  key_is : (xs : List X) (k : ℕ) → k < length xs → get_or (map key xs) k 0 ≡ key (get_or xs k d)
+  key_is xs k l = get_or-map key xs k d 0 l
+
+  pub found_by_key : (xs : List X) (x i : ℕ) → IsSearchInRange (Ok i) (length xs) → IsBinarySearchResult (λ v. nat_cmp (key v) x) xs (Ok i) → (i < length xs) × (get_or (map key xs) i 0 ≡ x)
+  found_by_key xs x i l h = (l, key_is xs i l ∙ ranked _ x _ (sym (h d)))
+
+  pub none_by_key : (xs : List X) (x i : ℕ) → IsStrictlyIncreasing (map key xs) → IsSearchInRange (Err i) (length xs) → IsBinarySearchResult (λ v. nat_cmp (key v) x) xs (Err i) → Contains (map key xs) x → ⊥
+  none_by_key xs x i up l h = not_among (map key xs) i x low high
+    where
+      n : length (map key xs) ≡ length xs
+      n = length-map xs key
+
+      higher : (a b : ℕ) → a ≤ b → ordering_index (nat_cmp a x) ≤ ordering_index (nat_cmp b x)
+      higher a b le = grind (arith, nat_tests)
+
+      keys : (a b : ℕ) → a ≤ b → b < length xs → key (get_or xs a d) ≤ key (get_or xs b d)
+      keys a b le lt =
+          let m = n in
+          let r = rises (map key xs) up a b le (omega arith) in
+          let p = key_is xs a (omega arith) in
+          let q = key_is xs b lt in
+          omega arith
+
+      rise : IsNonDecreasingBy (λ v. ordering_index (nat_cmp (key v) x)) xs
+      rise = IsNonDecreasingBy-from_default (λ v. ordering_index (nat_cmp (key v) x)) xs d (λ a b le lt. higher (key (get_or xs a d)) (key (get_or xs b d)) (keys a b le lt))
+
+      low : (k : ℕ) → k < i → get_or (map key xs) k 0 < x
+      low k lt = let m = n in let p = key_is xs k (omega arith) in let r : key (get_or xs k d) < x = ranked _ x _ (sym ((h rise).0 k d (omega arith) lt)) in omega arith
+
+      high : (k : ℕ) → i ≤ k → k < length (map key xs) → x < get_or (map key xs) k 0
+      high k le lt = let m = n in let p = key_is xs k (omega arith) in let r : x < key (get_or xs k d) = ranked _ x _ (sym ((h rise).1 k d le (omega arith))) in omega arith
+
 no_word : Word
 no_word = record { at = 0; bits = 0; steps = record { items = [] } }
 
-address_is : (ws : List Word) (k : ℕ) (w : Word) → k < length ws → get_or (addresses_of ws) k 0 ≡ (get_or ws k w).at
-address_is ws k w l = get_or-map (λ (v : Word). v.at) ws k w 0 l
-
 pub word_found : (ws : List Word) (x i : ℕ) → IsSearchInRange (Ok i) (length ws) → IsBinarySearchResult (λ (w : Word). nat_cmp w.at x) ws (Ok i) → (i < length ws) × (get_or (addresses_of ws) i 0 ≡ x)
-word_found ws x i l h = (l, address_is ws i no_word l ∙ ranked _ x _ (sym (h no_word)))
+word_found = found_by_key (λ (w : Word). w.at) no_word
 
 pub no_word_found : (ws : List Word) (x i : ℕ) → IsStrictlyIncreasing (addresses_of ws) → IsSearchInRange (Err i) (length ws) → IsBinarySearchResult (λ (w : Word). nat_cmp w.at x) ws (Err i) → Contains (addresses_of ws) x → ⊥
-no_word_found ws x i up l h = not_among (addresses_of ws) i x low high
-  where
-    n : length (addresses_of ws) ≡ length ws
-    n = length-map ws (λ (w : Word). w.at)
+no_word_found = none_by_key (λ (w : Word). w.at) no_word
 
-    higher : (a b : ℕ) → a ≤ b → ordering_index (nat_cmp a x) ≤ ordering_index (nat_cmp b x)
-    higher a b le = grind (arith, nat_tests)
+abbrev address : ℕ × ℕ → ℕ
+address u = u.0
 
-    keys : (a b : ℕ) → a ≤ b → b < length ws → (get_or ws a no_word).at ≤ (get_or ws b no_word).at
-    keys a b le lt =
-        let m = n in
-        let r = rises (addresses_of ws) up a b le (omega arith) in
-        let p = address_is ws a no_word (omega arith) in
-        let q = address_is ws b no_word lt in
-        omega arith
+-- the use at a place
+pub use_found : (us : List (ℕ × ℕ)) (x i : ℕ) (d : ℕ × ℕ) → IsStrictlyIncreasing (map (λ (u : ℕ × ℕ). u.0) us) → i < length us → get_or (map (λ (u : ℕ × ℕ). u.0) us) i 0 ≡ x → use_of us x ≡ Some (get_or us i d).1
+use_found [] x i d up l e = absurd (omega arith)
+use_found (u ∷ us) x zero d up l e = ap (λ b. if b then Some u.1 else use_of us x) (is_eq u.0 x e)
+use_found (u ∷ us) x (suc i) d up l e =
+    let p = AllPairs-from_increasing (map (λ (u : ℕ × ℕ). u.0) (u ∷ us)) up 0 (suc i) 0 (omega arith) (let n = length-map us (λ (u : ℕ × ℕ). u.0) in omega arith) in
+    ap (λ b. if b then Some u.1 else use_of us x) (is_ne u.0 x (λ q. omega arith)) ∙ use_found us x i d (λ k m. AllPairs-from_increasing (map (λ (u : ℕ × ℕ). u.0) (u ∷ us)) up (suc k) (suc (k + 1)) 0 (omega arith) (omega arith)) (omega arith) e
 
-    rise : IsNonDecreasingBy (λ (w : Word). ordering_index (nat_cmp w.at x)) ws
-    rise = IsNonDecreasingBy-from_default (λ (w : Word). ordering_index (nat_cmp w.at x)) ws no_word (λ a b le lt. higher (get_or ws a no_word).at (get_or ws b no_word).at (keys a b le lt))
-
-    low : (k : ℕ) → k < i → get_or (addresses_of ws) k 0 < x
-    low k lt = let m = n in let p = address_is ws k no_word (omega arith) in let r : (get_or ws k no_word).at < x = ranked _ x _ (sym ((h rise).0 k no_word (omega arith) lt)) in omega arith
-
-    high : (k : ℕ) → i ≤ k → k < length (addresses_of ws) → x < get_or (addresses_of ws) k 0
-    high k le lt = let m = n in let p = address_is ws k no_word (omega arith) in let r : x < (get_or ws k no_word).at = ranked _ x _ (sym ((h rise).1 k no_word le (omega arith))) in omega arith
+pub no_use : (us : List (ℕ × ℕ)) (x : ℕ) → (Contains (map (λ (u : ℕ × ℕ). u.0) us) x → ⊥) → use_of us x ≡ None
+no_use [] x none = refl
+no_use (u ∷ us) x none =
+    ap (λ b. if b then Some u.1 else use_of us x) (is_ne u.0 x (λ q. none (0, (omega arith), q))) ∙ no_use us x (λ c. none (suc c.0, (let l = c.1 in omega arith), c.2))

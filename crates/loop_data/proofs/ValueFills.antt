@@ -1,5 +1,5 @@
 -- Arrays of values and flags that are filled location by location.
-use Rattle.std.proofs.Common.{◌≡◌, ◌≢◌, ℕ, zero, suc, ◌+◌, ◌<◌, ◌≤◌, ◌⊎◌, ◌↔◌, inl, inr, ◌==◌, ◌||◌, ◌&&◌, Bool, true, false, if◌then◌else◌, nat_lt, List, [], ◌∷◌, ◌++◌, length, get_or, set, take, replicate, Option, Some, None, refl, ap, sym, ◌∙◌, subst, arith}
+use Rattle.std.proofs.Common.{◌≡◌, ◌≢◌, ℕ, zero, suc, ◌+◌, ◌-◌, ◌<◌, ◌≤◌, ◌⊎◌, ◌↔◌, inl, inr, ◌==◌, ◌||◌, ◌&&◌, Bool, true, false, if◌then◌else◌, nat_lt, List, [], ◌∷◌, ◌++◌, length, get_or, set, take, replicate, Option, Some, None, refl, ap, sym, ◌∙◌, subst, arith, pos, is_some}
 use Rattle.std.specs.List.{Contains}
 use Rattle.std.proofs.lemmas.Bool.{cases_eq}
 use Rattle.std.proofs.lemmas.Bool.Decides.{nat_tests}
@@ -8,8 +8,13 @@ use Rattle.loop_data.specs.declared.shape.Level.{Level}
 use Rattle.loop_data.specs.declared.values.Value.{Value}
 use Rattle.loop_data.specs.declared.values.Value.TheVariants.{Nothing}
 use Rattle.loop_data.specs.LoopCode.{LoopCode, writes, any_writes}
-use Rattle.loop_data.specs.Facts.{Fact}
-use Rattle.loop_data.specs.Lookups.{fact_of, fact_in}
+use Rattle.loop_data.specs.Facts.{Fact, Offset}
+use Rattle.loop_data.specs.FactPass.{header_fact}
+use Rattle.loop_data.specs.Locations.{cell_at}
+use Rattle.loop_data.specs.declared.cells.Cells.{Cells}
+use Rattle.loop_data.specs.declared.verdict.Cell.{Cell}
+use Rattle.loop_data.proofs.Tests.{is_ne}
+use Rattle.loop_data.specs.Lookups.{fact_of, fact_in, cell_map}
 use Rattle.loop_data.specs.ValueStates.{lost_by}
 
 -- one more value is set, and those below it stay
@@ -89,3 +94,31 @@ none_set zero zero = refl
 none_set zero (suc r) = refl
 none_set (suc n) zero = refl
 none_set (suc n) (suc r) = none_set n r
+
+-- the fact at the header of a cell, and of a number that is no cell's
+pub some_cell : (cs : List Cell) (k : ℕ) → k < length cs → is_some (cell_at cs k) ≡ true
+some_cell [] k l = absurd (omega arith)
+some_cell (x ∷ xs) zero l = refl
+some_cell (x ∷ xs) (suc k) l = some_cell xs k (omega arith)
+
+pub no_cell_at : (cs : List Cell) (k : ℕ) → length cs ≤ k → is_some (cell_at cs k) ≡ false
+no_cell_at [] k l = refl
+no_cell_at (x ∷ xs) zero l = absurd (omega arith)
+no_cell_at (x ∷ xs) (suc k) l = no_cell_at xs k (omega arith)
+
+abbrev by_cell : (b : Bool) → ℕ → Option Fact
+by_cell b r = if b then Some (Offset r (pos 0)) else None
+
+header_by : (c : Cells) (r : ℕ) → 32 ≤ r → header_fact (record { instr = λ u. None; cells = cell_map c }) r ≡ by_cell (is_some (cell_at c.list.items (r - 32))) r
+header_by c r h =
+    let a : (r == 0) ≡ false = is_ne r 0 (λ e. omega arith) in
+    let b : nat_lt r 32 ≡ false = grind (arith, nat_tests) in
+    rw a (rw b refl)
+
+pub header_of_cell : (c : Cells) (r : ℕ) → 32 ≤ r → r - 32 < length c.list.items → Some (Offset (32 + (r - 32)) (pos 0)) ≡ header_fact (record { instr = λ u. None; cells = cell_map c }) r
+header_of_cell c r h l =
+    let e : 32 + (r - 32) ≡ r = omega arith in
+    ap (λ q. Some (Offset q (pos 0))) e ∙ sym (header_by c r h ∙ ap (λ b. by_cell b r) (some_cell c.list.items (r - 32) l))
+
+pub header_of_none : (c : Cells) (r : ℕ) → 32 ≤ r → length c.list.items ≤ r - 32 → None ≡ header_fact (record { instr = λ u. None; cells = cell_map c }) r
+header_of_none c r h l = sym (header_by c r h ∙ ap (λ b. by_cell b r) (no_cell_at c.list.items (r - 32) l))

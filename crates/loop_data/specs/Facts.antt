@@ -14,7 +14,7 @@ use Rattle.rv64_decode.specs.declared.instr.UpperOp.TheVariants.{Lui, Auipc}
 use Rattle.rv64_decode.specs.declared.instr.StoreOp.{StoreOp}
 use Rattle.rv64_decode.specs.declared.instr.StoreOp.TheVariants.{Sw}
 use Rattle.linear_forms.specs.Forms.{word_of, constant_fits}
-use Rattle.loop_data.specs.Locations.{first_cell, word_writes, no_cells}
+use Rattle.loop_data.specs.Locations.{first_cell, instr_writes}
 use Rattle.loop_data.specs.LoopCode.{LoopCode, writes}
 
 pub data Fact : Type 0 where
@@ -101,7 +101,7 @@ register_fact u (Load op rd rs1 imm) cell V = cell_fact cell V
 register_fact u _ cell V = None
 
 abbrev pub store_fact : StoreOp → Option Fact → Option Fact
-store_fact Sw x = fact_short x
+store_fact Sw x = ranged (fact_short x)
 store_fact _ x = x
 
 -- the fact that a store writes to its cell
@@ -117,6 +117,6 @@ written_fact u (Some i) cell r V = if nat_lt r first_cell then register_fact u i
 abbrev pub fact_after : LoopCode → ℕ → (ℕ → Option Fact) → ℕ → Option Fact
 fact_after B u V r = if writes B u r then written_fact u (B.instr u) (B.cells.uses u) r V else V r
 
--- the same after a word of a loop without cells
-abbrev pub fact_past : ℕ → Option Instr → (ℕ → Option Fact) → ℕ → Option Fact
-fact_past u i V r = if word_writes no_cells u i r then written_fact u i None r V else V r
+-- the same, where the word is this instruction, which accesses this cell if any
+abbrev pub fact_past : ℕ → Option Instr → Option ℕ → (ℕ → Option Fact) → ℕ → Option Fact
+fact_past u i cell V r = if instr_writes i cell r then written_fact u i cell r V else V r

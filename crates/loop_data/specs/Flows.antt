@@ -8,6 +8,7 @@ use Rattle.loop_data.specs.declared.shape.Level.{Level}
 use Rattle.loop_data.specs.declared.flow.Flow.{Flow}
 use Rattle.loop_data.specs.Nests.{has}
 use Rattle.loop_data.specs.Paths.{Leads}
+use Rattle.loop_data.specs.Locations.{CellMap}
 use Rattle.loop_data.specs.LoopCode.{instr_among}
 
 -- the list that a vector holds, and the lists that vectors hold
@@ -103,8 +104,9 @@ pub record IsSweep (rows : List (List ℕ)) (p : ℕ) (old new : List Bool) (who
   pub ready : (rank : ℕ → ℕ) (n q : ℕ) → IsRowRank rows rank → AreSetBelow rows rank n old → q < p
       → rank q < n + 1 → IsSet new q
 
--- the words of a body, with their edges and an order along these
-pub record IsFlow (G : Graph) (levels : List Level) (body : List ℕ) (f : Flow) : Type 0 where
+-- the words of a body, the cells that they access, their edges and an order along these
+pub record IsFlow (G : Graph) (C : CellMap) (levels : List Level) (body : List ℕ) (f : Flow) : Type 0 where
   pub instrs : f.instrs.items ≡ map (instr_among G.words) body
+  pub uses : f.uses.items ≡ map C.uses body
   pub sources : HasSources G levels body (length body) (rows f.sources.items)
   pub order : IsWholeOrder (rows f.sources.items) f.order.items

@@ -32,5 +32,6 @@ pub mod Lookups
 pub mod Results
 pub mod Trips
 pub mod Accesses
+pub mod FoundCells
 pub mod ValueStates
 pub mod EffectLaws

@@ -1,6 +1,6 @@
 -- Locations: registers by their numbers, and from 32 on the cells of a loop; their values, and the words
 -- that read and write them.
-use Rattle.std.specs.Prelude.{ℕ, zero, suc, ◌==◌, ◌+◌, ◌-◌, Bool, true, false, ◌||◌, nat_lt, if◌then◌else◌, List, [], ◌∷◌, ℤ, Option, Some, None}
+use Rattle.std.specs.Prelude.{ℕ, zero, suc, ◌==◌, ◌+◌, ◌-◌, Bool, true, false, not, ◌||◌, nat_lt, if◌then◌else◌, List, [], ◌∷◌, ℤ, Option, Some, None}
 use Rattle.rv64_decode.specs.Area.{Area, number_at}
 use Rattle.rv64_decode.specs.Registers.{register}
 use Rattle.rv64_decode.specs.Row.{plus_offset, extended32}
@@ -8,6 +8,10 @@ use Rattle.rv64_decode.specs.declared.memory.Width.{Width}
 use Rattle.rv64_decode.specs.declared.memory.Width.TheVariants.{Four, Eight}
 use Rattle.rv64_decode.specs.declared.instr.Instr.{Instr}
 use Rattle.rv64_decode.specs.declared.instr.Instr.TheVariants.{Alu, AluImm, Upper, Load, Store, Branch, Jal, Jalr}
+use Rattle.rv64_decode.specs.declared.instr.LoadOp.{LoadOp}
+use Rattle.rv64_decode.specs.declared.instr.LoadOp.TheVariants.{Lw, Ld}
+use Rattle.rv64_decode.specs.declared.instr.StoreOp.{StoreOp}
+use Rattle.rv64_decode.specs.declared.instr.StoreOp.TheVariants.{Sw, Sd}
 use Rattle.linear_forms.specs.Forms.{word_of}
 use Rattle.loop_data.specs.declared.verdict.Cell.{Cell}
 use Rattle.loop_data.specs.Runs.{State}
@@ -93,14 +97,37 @@ abbrev pub reads_cell : Instr → Option ℕ → ℕ → Bool
 reads_cell (Load op rd rs1 imm) (Some k) r = first_cell + k == r
 reads_cell _ _ r = false
 
--- the word at u, where it is this instruction, writes a location
+-- an instruction, which accesses this cell if any, writes a location, and reads it
+abbrev pub instr_writes : Option Instr → Option ℕ → ℕ → Bool
+instr_writes None cell r = false
+instr_writes (Some i) cell r = if nat_lt r first_cell then writes_register i r else writes_cell i cell r
+
+abbrev pub instr_reads : Option Instr → Option ℕ → ℕ → Bool
+instr_reads None cell r = false
+instr_reads (Some i) cell r = if nat_lt r first_cell then reads_register i r else reads_cell i cell r
+
+-- lw and sw move the bytes of a cell of 4 bytes, ld and sd those of one of 8
+abbrev pub loads_cell : LoadOp → Bool → Bool
+loads_cell Lw wide = not wide
+loads_cell Ld wide = wide
+loads_cell _ wide = false
+
+abbrev pub stores_cell : StoreOp → Bool → Bool
+stores_cell Sw wide = not wide
+stores_cell Sd wide = wide
+stores_cell _ wide = false
+
+abbrev pub moves_cell : Option Instr → Bool → Bool
+moves_cell (Some (Load op rd rs1 imm)) wide = loads_cell op wide
+moves_cell (Some (Store op rs1 rs2 imm)) wide = stores_cell op wide
+moves_cell _ wide = false
+
+-- the word at u, where it is this instruction, writes a location, and reads it
 abbrev pub word_writes : CellMap → ℕ → Option Instr → ℕ → Bool
-word_writes C u None r = false
-word_writes C u (Some i) r = if nat_lt r first_cell then writes_register i r else writes_cell i (C.uses u) r
+word_writes C u i r = instr_writes i (C.uses u) r
 
 abbrev pub word_reads : CellMap → ℕ → Option Instr → ℕ → Bool
-word_reads C u None r = false
-word_reads C u (Some i) r = if nat_lt r first_cell then reads_register i r else reads_cell i (C.uses u) r
+word_reads C u i r = instr_reads i (C.uses u) r
 
 -- one of the words writes a location
 abbrev pub some_writes : CellMap → (ℕ → Option Instr) → List ℕ → ℕ → Bool

@@ -1,5 +1,7 @@
 -- What the results of the analysis say of an address and a location.
-use Rattle.std.specs.Prelude.{ℕ, ◌≡◌, ◌==◌, Bool, true, false, nat_lt, if◌then◌else◌, List, [], ◌∷◌, Option, Some, None, slice_index_or}
+use Rattle.std.specs.Prelude.{ℕ, ◌≡◌, ◌==◌, ◌<◌, ◌≤◌, Bool, true, false, nat_lt, if◌then◌else◌, List, [], ◌∷◌, length, map, Option, Some, None, slice_index_or}
+use Rattle.std.specs.List.{All}
+use Rattle.std.specs.List.Sorted.{IsStrictlyIncreasing}
 use Rattle.rv64_decode.specs.Row.{signed64}
 use Rattle.linear_forms.specs.Forms.{LinearForm}
 use Rattle.linear_forms.specs.Locations.{number_of}
@@ -13,7 +15,7 @@ use Rattle.loop_data.specs.declared.values.Value.{Value}
 use Rattle.loop_data.specs.declared.values.Value.TheVariants.{Known, Base, Nothing}
 use Rattle.loop_data.specs.declared.values.Values.{Values}
 use Rattle.loop_data.specs.Independent.{Role, Keeps, Moves, Private}
-use Rattle.loop_data.specs.Locations.{CellMap}
+use Rattle.loop_data.specs.Locations.{CellMap, cell_at}
 use Rattle.loop_data.specs.LoopCode.{LoopCode, any_writes}
 use Rattle.loop_data.specs.Facts.{Fact, Number, Offset}
 
@@ -25,10 +27,16 @@ use_of (use_at ∷ uses) u = if use_at.0 == u then Some use_at.1 else use_of use
 abbrev pub cell_map : Cells → CellMap
 cell_map c = record { cells = c.list.items; uses = use_of c.uses.items }
 
--- no cells, and no word that accesses one
-pub record HasNoCells (c : Cells) : Type 0 where
-  pub cells : c.list.items ≡ []
-  pub uses : c.uses.items ≡ []
+-- the words that access cells stand in address order, each with the number of one of at most 16 cells
+pub record AreNumbered (c : Cells) : Type 0 where
+  pub ordered : IsStrictlyIncreasing (map (λ (u : ℕ × ℕ). u.0) c.uses.items)
+  pub numbers : All (λ (u : ℕ × ℕ). u.1 < length c.list.items) c.uses.items
+  pub few : length c.list.items ≤ 16
+
+-- cells have numbers below 16
+pub record AreFew (C : CellMap) : Type 0 where
+  pub cells : (k : ℕ) → 16 ≤ k → cell_at C.cells k ≡ None
+  pub uses : (u k : ℕ) → C.uses u ≡ Some k → k < 16
 
 -- the fact that a value stands for
 abbrev pub fact_of : Value → Option Fact

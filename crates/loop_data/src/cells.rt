@@ -1,3 +1,7 @@
+ghost use Rattle.std.specs.Prelude.{ℕ, ◌≡◌, map};
+ghost use Rattle.std.specs.List.Sorted.{IsStrictlyIncreasing};
+ghost use Rattle.loop_data.specs.Lookups.{use_of};
+
 use crate::verdict::{Cell, Verdict};
 use arrayvec::ArrayVec;
 
@@ -10,4 +14,15 @@ pub struct Cells {
     pub uses: ArrayVec<(u64, u8), 256>,
     /// Why the loop is not taken, where its cells decide that.
     pub fault: Option<Verdict>,
+}
+
+/// The number of the cell that the word at an address accesses, if it does.
+pub fn use_at(uses: &[(u64, u8)], at: u64) -> Option<u8>
+    requires { IsStrictlyIncreasing (map (λ (u : ℕ × ℕ). u.0) uses.now) }
+    ensures { result ≡ use_of uses.now at }
+{
+    match uses.binary_search_by_key(&at, |u| u.0) {
+        Ok(i) => Some(uses[i].1),
+        Err(_) => None,
+    }
 }

@@ -6,8 +6,10 @@ ghost use Rattle.loop_data.specs.Nests.{has};
 ghost use Rattle.loop_data.specs.LoopWords.{AreNest};
 ghost use Rattle.loop_data.specs.Paths.{addresses_of, IsInOrder, Leads};
 ghost use Rattle.loop_data.specs.LoopCode.{instr_among};
+ghost use Rattle.loop_data.specs.Lookups.{use_of, cell_map, AreNumbered};
 ghost use Rattle.loop_data.specs.Flows.{rows, row_at, closes_one, Added, HasSources, AreRowsWithin, HasRowRank, IsSet, IsMarked, IsVisit, IsSweep, IsWholeOrder, IsFlow};
 
+use crate::cells::{Cells, use_at};
 use crate::graph::{Graph, Word};
 use crate::shape::Level;
 use rv64_decode::{Instr, decode};
@@ -18,6 +20,8 @@ use std::alloc::{AllocError, Global};
 pub struct Flow {
     /// What each word stands for.
     pub instrs: Vec<Option<Instr>>,
+    /// The number of the cell that each word accesses, if it does.
+    pub uses: Vec<Option<u8>>,
     /// For each word the places of the words from which such an edge leads to it.
     pub sources: Vec<Vec<usize>>,
     /// All places, each after those of its sources.
@@ -89,6 +93,15 @@ fn instrs_of(alloc: Global, graph: &Graph, body: &[u64]) -> Result<Vec<Option<In
     ensures { IfOk result (λ v. v.items ≡ map (instr_among graph.now.words) body.now) }
 {
     body.iter().map(|x| instr_at(graph, *x)).collect(alloc)
+}
+
+/// The numbers of the cells that the words of a body access.
+fn uses_of(alloc: Global, cells: &Cells, body: &[u64]) -> Result<Vec<Option<u8>>, AllocError>
+    requires { AreNumbered cells.now }
+    ensures { IfOk result (λ v. v.items ≡ map (use_of cells.now.uses.items) body.now) }
+{
+    let uses = cells.uses.as_slice();
+    body.iter().map(|x| use_at(uses, *x)).collect(alloc)
 }
 
 /// Whether an edge closes one of the loops.
@@ -301,25 +314,29 @@ fn order_of(alloc: Global, sources: &[Vec<usize>]) -> Result<Vec<usize>, AllocEr
     Ok(order)
 }
 
-/// The words of a loop's body, which has an order along its edges.
+/// The words of a loop's body, which has an order along its edges, with the cells that they access.
 pub fn flow_of(
     alloc: Global,
     graph: &Graph,
+    cells: &Cells,
     levels: &[Level],
     body: &[u64],
 ) -> Result<Flow, AllocError>
     requires graph { IsInOrder graph.now }
+    requires cells { AreNumbered cells.now }
     requires ordered { IsStrictlyIncreasing body.now }
     requires levels { All (λ l. IsStrictlyIncreasing l.body) levels.now }
     requires ranked { (all : List (List ℕ)) → HasSources graph.now levels.now body.now (length body.now) all
         → HasRowRank all }
-    ensures { IfOk result (IsFlow graph.now levels.now body.now) }
+    ensures { IfOk result (IsFlow graph.now (cell_map cells.now) levels.now body.now) }
 {
     let instrs = instrs_of(alloc, graph, body)?;
+    let uses = uses_of(alloc, cells, body)?;
     let sources = sources_of(alloc, graph, levels, body)?;
     let order = order_of(alloc, sources.as_slice())?;
     Ok(Flow {
         instrs,
+        uses,
         sources,
         order,
     })
@@ -329,14 +346,16 @@ pub fn flow_of(
 pub fn loop_flow(
     alloc: Global,
     graph: &Graph,
+    cells: &Cells,
     levels: &[Level],
     level: usize,
 ) -> Result<Flow, AllocError>
     requires graph { IsInOrder graph.now }
+    requires cells { AreNumbered cells.now }
     requires nest { AreNest graph.now levels.now }
     requires within { level < length levels.now }
     ensures { IfOk result (λ f. (l : Level) → slice_index_or levels.now level l ≡ l
-        → IsFlow graph.now levels.now l.body f) }
+        → IsFlow graph.now (cell_map cells.now) levels.now l.body f) }
 {
-    flow_of(alloc, graph, levels, levels[level].body.as_slice())
+    flow_of(alloc, graph, cells, levels, levels[level].body.as_slice())
 }

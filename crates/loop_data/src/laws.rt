@@ -1,8 +1,8 @@
 ghost use Rattle.loop_data.specs.FactLaws.{FactLaw, ArrivalLaw, SomePassLaw, OnePassLaw};
 
-/// Where a run executes the words of a loop of a nest without cells, and no sum of 32 bits of a location's value
-/// loses bits, each location with a fact in the loop's pass has the value that the fact gives, over the values at
-/// the last arrival at the loop's header.
+/// Where a run executes the words of a loop of a nest, those that use a cell access its bytes and no other word
+/// writes them, and no sum or store of 32 bits of a location's value loses bits, each location with a fact in the
+/// loop's pass has the value that the fact gives, over the values at the last arrival at the loop's header.
 pub fn facts_hold()
     ensures visit { FactLaw }
     ensures arrival { ArrivalLaw }

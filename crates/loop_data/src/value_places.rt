@@ -1,23 +1,23 @@
-ghost use Rattle.std.specs.Prelude.{ℕ, ◌≡◌, ◌≢◌, ◌<◌, ◌≤◌, ◌↔◌, ◌||◌, ◌&&◌, ◌==◌, [], None, length, map, false, true, Some, IfOk, slice_index_or};
+ghost use Rattle.std.specs.Prelude.{ℕ, ◌≡◌, ◌≢◌, ◌<◌, ◌≤◌, ◌↔◌, ◌||◌, ◌&&◌, ◌==◌, [], None, length, map, nat_lt, if◌then◌else◌, false, true, Some, IfOk, slice_index_or};
 ghost use Rattle.std.specs.List.{All, Contains};
 ghost use Rattle.loop_data.specs.declared.shape.Level.{Level};
 ghost use Rattle.loop_data.specs.declared.values.Values.{Values};
 ghost use Rattle.loop_data.specs.LoopWords.{AreNest};
-ghost use Rattle.loop_data.specs.Locations.{word_writes, no_cells};
+ghost use Rattle.loop_data.specs.Locations.{instr_writes, writes_register, writes_cell};
 ghost use Rattle.loop_data.specs.LoopCode.{any_writes, code_of};
 ghost use Rattle.loop_data.specs.Facts.{Fact};
 ghost use Rattle.loop_data.specs.FactPass.{header_fact};
 ghost use Rattle.loop_data.specs.Flows.{rows, row_at, IsFlow};
-ghost use Rattle.loop_data.specs.Lookups.{fact_of, fact_in, cell_map, HasNoCells};
+ghost use Rattle.loop_data.specs.Lookups.{fact_of, fact_in, use_of, cell_map, AreNumbered};
 ghost use Rattle.loop_data.specs.Paths.{IsInOrder};
 ghost use Rattle.loop_data.specs.Results.{AreFactsOf};
 ghost use Rattle.loop_data.specs.ValueStates.{past, lost_by, values_at, IsInnerFact, IsState, IsSetAt};
 
-use crate::cells::Cells;
+use crate::cells::{Cells, use_at};
 use crate::flow::{Flow, instr_at, loop_flow, row};
 use crate::graph::Graph;
 use crate::shape::{Level, LoopShape};
-use crate::value_rows::{met, target_of, value_after};
+use crate::value_rows::{is_store, met, target_of, value_after};
 use crate::values::{Value, Values};
 use linear_forms::Loc;
 use rv64_decode::Instr;
@@ -38,75 +38,111 @@ fn no_values(alloc: Global, body: &[u64]) -> Result<Vec<Values>, AllocError>
 }
 
 /// What is known of a location at the header: its own value, and 0 of x0.
-fn header_value(r: usize) -> Value
+fn header_value(cells: &Cells, r: usize) -> Value
     requires { r < 48 }
-    ensures { fact_of result ≡ header_fact (record { instr = λ u. None; cells = no_cells }) r }
+    ensures { fact_of result ≡ header_fact (record { instr = λ u. None; cells = cell_map cells.now }) r }
 {
     if r == 0 {
         Value::Known(0)
     } else if r < 32 {
         Value::Base(Loc::Reg(r as u8), 0)
+    } else if r - 32 < cells.list.len() {
+        Value::Base(Loc::Cell((r - 32) as u8), 0)
     } else {
         Value::Nothing
     }
 }
 
 /// What is known at the header.
-fn header_values() -> [Value; 48]
+fn header_values(cells: &Cells) -> [Value; 48]
     ensures { (r : ℕ) → r < 48
-        → fact_in result r ≡ header_fact (record { instr = λ u. None; cells = no_cells }) r }
+        → fact_in result r ≡ header_fact (record { instr = λ u. None; cells = cell_map cells.now }) r }
 {
     let mut of = [Value::Nothing; 48];
     for r in 0..48usize {
-        of[r] = header_value(r);
+        of[r] = header_value(cells, r);
     }
     of
 }
 
-/// Sets the flag of the location that a word writes.
-fn mark_word(flags: &mut [bool; 48], at: u64, instr: &Option<Instr>)
+/// Sets the flag of the register that an instruction writes.
+fn mark_register(flags: &mut [bool; 48], instr: &Instr)
+    ensures { (r : ℕ) → r < 48 → slice_index_or flags.new r false
+        ≡ (slice_index_or flags.old r false || (if nat_lt r 32 then writes_register instr.now r else false)) }
+{
+    let r = target_of(instr) as usize;
+    if r != 0 && r < 32 {
+        flags[r] = true;
+    }
+}
+
+/// Sets the flag of the cell that an instruction writes, where it accesses this cell.
+fn mark_cell(flags: &mut [bool; 48], instr: &Instr, cell: u8)
+    ensures { (r : ℕ) → r < 48 → slice_index_or flags.new r false
+        ≡ (slice_index_or flags.old r false || (if nat_lt r 32 then false else writes_cell instr.now (Some cell) r)) }
+{
+    let r = 32 + cell as usize;
+    if r < 48 && is_store(instr) {
+        flags[r] = true;
+    }
+}
+
+/// Sets the flags of the locations that an instruction writes, which accesses this cell, if any.
+fn mark_instr(flags: &mut [bool; 48], instr: &Instr, cell: Option<u8>)
+    ensures { (r : ℕ) → r < 48 → slice_index_or flags.new r false
+        ≡ (slice_index_or flags.old r false || instr_writes (Some instr.now) cell r) }
+{
+    mark_register(flags, instr);
+    if let Some(cell) = cell {
+        mark_cell(flags, instr, cell);
+    }
+}
+
+/// Sets the flag of the location that a word writes, which accesses this cell, if any.
+fn mark_word(flags: &mut [bool; 48], instr: &Option<Instr>, cell: Option<u8>)
     ensures { (r : ℕ) → r < 48
-        → slice_index_or flags.new r false ≡ (slice_index_or flags.old r false || word_writes no_cells at instr.now r) }
+        → slice_index_or flags.new r false ≡ (slice_index_or flags.old r false || instr_writes instr.now cell r) }
 {
     if let Some(instr) = instr {
-        let r = target_of(instr) as usize;
-        if r != 0 && r < 32 {
-            flags[r] = true;
-        }
+        mark_instr(flags, instr, cell);
     }
 }
 
 /// Sets the flags of the locations that the words of a body write.
-fn mark_body(flags: &mut [bool; 48], graph: &Graph, body: &[u64])
-    requires { IsInOrder graph.now }
+pub fn mark_body(flags: &mut [bool; 48], graph: &Graph, cells: &Cells, body: &[u64])
+    requires graph { IsInOrder graph.now }
+    requires cells { AreNumbered cells.now }
     ensures { (r : ℕ) → r < 48 → slice_index_or flags.new r false
-        ≡ (slice_index_or flags.old r false || any_writes (code_of graph.now no_cells) body.now r) }
+        ≡ (slice_index_or flags.old r false || any_writes (code_of graph.now (cell_map cells.now)) body.now r) }
 {
+    let uses = cells.uses.as_slice();
     for u in body {
-        mark_word(flags, *u, &instr_at(graph, *u));
+        mark_word(flags, &instr_at(graph, *u), use_at(uses, *u));
     }
 }
 
 /// Sets the flags of the locations that a loop writes, if this is its header.
-fn mark_loop(flags: &mut [bool; 48], graph: &Graph, level: &Level, v: u64)
-    requires { IsInOrder graph.now }
+fn mark_loop(flags: &mut [bool; 48], graph: &Graph, cells: &Cells, level: &Level, v: u64)
+    requires graph { IsInOrder graph.now }
+    requires cells { AreNumbered cells.now }
     ensures { (r : ℕ) → r < 48 → slice_index_or flags.new r false ≡ (slice_index_or flags.old r false
-        || ((level.now.header == v) && any_writes (code_of graph.now no_cells) level.now.body r)) }
+        || ((level.now.header == v) && any_writes (code_of graph.now (cell_map cells.now)) level.now.body r)) }
 {
     if level.header == v {
-        mark_body(flags, graph, level.body.as_slice());
+        mark_body(flags, graph, cells, level.body.as_slice());
     }
 }
 
 /// Which locations the loops with this header write.
-fn lost_flags(graph: &Graph, levels: &[Level], v: u64) -> [bool; 48]
-    requires { IsInOrder graph.now }
+fn lost_flags(graph: &Graph, cells: &Cells, levels: &[Level], v: u64) -> [bool; 48]
+    requires graph { IsInOrder graph.now }
+    requires cells { AreNumbered cells.now }
     ensures { (r : ℕ) → r < 48
-        → slice_index_or result r false ≡ lost_by (code_of graph.now no_cells) levels.now v r }
+        → slice_index_or result r false ≡ lost_by (code_of graph.now (cell_map cells.now)) levels.now v r }
 {
     let mut flags = [false; 48];
     for level in levels {
-        mark_loop(&mut flags, graph, level, v);
+        mark_loop(&mut flags, graph, cells, level, v);
     }
     flags
 }
@@ -115,10 +151,17 @@ fn lost_flags(graph: &Graph, levels: &[Level], v: u64) -> [bool; 48]
 fn past_value(flow: &Flow, points: &[Values], k: usize, r: usize) -> Value
     requires within { k < length points.now }
     requires count { length flow.now.instrs.items ≡ length points.now }
+    requires uses { length flow.now.uses.items ≡ length points.now }
     requires location { r < 48 }
-    ensures { fact_of result ≡ past flow.now.instrs.items points.now k r }
+    ensures { fact_of result ≡ past flow.now points.now k r }
 {
-    value_after(points[k].at, &flow.instrs[k], &points[k].of, r)
+    value_after(
+        points[k].at,
+        &flow.instrs[k],
+        flow.uses[k],
+        &points[k].of,
+        r,
+    )
 }
 
 /// What is known of a location where the edges from these places meet.
@@ -126,9 +169,10 @@ fn met_value(flow: &Flow, points: &[Values], sources: &[usize], r: usize) -> Val
     requires some { 1 ≤ length sources.now }
     requires within { All (λ k. k < length points.now) sources.now }
     requires count { length flow.now.instrs.items ≡ length points.now }
+    requires uses { length flow.now.uses.items ≡ length points.now }
     requires location { r < 48 }
-    ensures { (x : Fact) → (fact_of result ≡ Some x) ↔ ((k : ℕ) → Contains sources.now k
-        → past flow.now.instrs.items points.now k r ≡ Some x) }
+    ensures { (x : Fact) → (fact_of result ≡ Some x)
+        ↔ ((k : ℕ) → Contains sources.now k → past flow.now points.now k r ≡ Some x) }
 {
     let mut value = past_value(flow, points, sources[0], r);
     for k in sources {
@@ -148,9 +192,10 @@ fn inner_value(
     requires some { 1 ≤ length sources.now }
     requires within { All (λ k. k < length points.now) sources.now }
     requires count { length flow.now.instrs.items ≡ length points.now }
+    requires uses { length flow.now.uses.items ≡ length points.now }
     requires location { r < 48 }
     ensures { IsInnerFact (slice_index_or lost.now r false)
-        flow.now.instrs.items points.now sources.now r (fact_of result) }
+        flow.now points.now sources.now r (fact_of result) }
 {
     if lost[r] {
         Value::Nothing
@@ -164,8 +209,9 @@ fn inner_values(lost: &[bool; 48], flow: &Flow, points: &[Values], sources: &[us
     requires some { 1 ≤ length sources.now }
     requires within { All (λ k. k < length points.now) sources.now }
     requires count { length flow.now.instrs.items ≡ length points.now }
+    requires uses { length flow.now.uses.items ≡ length points.now }
     ensures { (r : ℕ) → r < 48 → IsInnerFact (slice_index_or lost.now r false)
-        flow.now.instrs.items points.now sources.now r (fact_in result r) }
+        flow.now points.now sources.now r (fact_in result r) }
 {
     let mut of = [Value::Nothing; 48];
     for r in 0..48usize {
@@ -177,6 +223,7 @@ fn inner_values(lost: &[bool; 48], flow: &Flow, points: &[Values], sources: &[us
 /// What is known at the word at a place, out of what is known at its sources.
 fn place_values(
     graph: &Graph,
+    cells: &Cells,
     levels: &[Level],
     header: u64,
     flow: &Flow,
@@ -184,25 +231,28 @@ fn place_values(
     p: usize,
 ) -> [Value; 48]
     requires graph { IsInOrder graph.now }
+    requires cells { AreNumbered cells.now }
     requires within { p < length points.now }
     requires count { length flow.now.instrs.items ≡ length points.now }
+    requires uses { length flow.now.uses.items ≡ length points.now }
     requires rows { length (rows flow.now.sources.items) ≡ length points.now }
     requires sources { (k : ℕ) → Contains (row_at (rows flow.now.sources.items) p) k → k < length points.now }
     requires some { (values_at points.now p).at ≢ header → 1 ≤ length (row_at (rows flow.now.sources.items) p) }
-    ensures { IsState (code_of graph.now no_cells) levels.now header (rows flow.now.sources.items)
-        flow.now.instrs.items points.now p (values_at points.now p).at result }
+    ensures { IsState (code_of graph.now (cell_map cells.now)) levels.now header flow.now points.now p
+        (values_at points.now p).at result }
 {
     let v = points[p].at;
     if v == header {
-        return header_values();
+        return header_values(cells);
     }
-    let lost = lost_flags(graph, levels, v);
+    let lost = lost_flags(graph, cells, levels, v);
     inner_values(&lost, flow, points, row(flow.sources.as_slice(), p))
 }
 
 /// Sets what is known at the word at a place.
 fn set_place(
     graph: &Graph,
+    cells: &Cells,
     levels: &[Level],
     header: u64,
     flow: &Flow,
@@ -210,39 +260,50 @@ fn set_place(
     p: usize,
 )
     requires graph { IsInOrder graph.now }
+    requires cells { AreNumbered cells.now }
     requires within { p < length points.old.items }
     requires count { length flow.now.instrs.items ≡ length points.old.items }
+    requires uses { length flow.now.uses.items ≡ length points.old.items }
     requires rows { length (rows flow.now.sources.items) ≡ length points.old.items }
     requires sources { (k : ℕ) → Contains (row_at (rows flow.now.sources.items) p) k
         → k < length points.old.items }
     requires some { (values_at points.old.items p).at ≢ header
         → 1 ≤ length (row_at (rows flow.now.sources.items) p) }
-    ensures { IsSetAt (code_of graph.now no_cells) levels.now header (rows flow.now.sources.items)
-        flow.now.instrs.items p points.old.items points.new.items }
+    ensures { IsSetAt (code_of graph.now (cell_map cells.now)) levels.now header flow.now p points.old.items
+        points.new.items }
 {
-    let of = place_values(graph, levels, header, flow, points.as_slice(), p);
+    let of = place_values(graph, cells, levels, header, flow, points.as_slice(), p);
     points[p].of = of;
 }
 
 /// Sets what is known at each word, in the flow's order.
-fn set_places(graph: &Graph, levels: &[Level], level: usize, flow: &Flow, points: &mut Vec<Values>)
+fn set_places(
+    graph: &Graph,
+    cells: &Cells,
+    levels: &[Level],
+    level: usize,
+    flow: &Flow,
+    points: &mut Vec<Values>,
+)
     requires graph { IsInOrder graph.now }
+    requires cells { AreNumbered cells.now }
     requires nest { AreNest graph.now levels.now }
     requires within { level < length levels.now }
     requires flow { (l : Level) → slice_index_or levels.now level l ≡ l
-        → IsFlow graph.now levels.now l.body flow.now }
+        → IsFlow graph.now (cell_map cells.now) levels.now l.body flow.now }
     requires words { (l : Level) → slice_index_or levels.now level l ≡ l
         → map (λ (p : Values). p.at) points.old.items ≡ l.body }
-    ensures { AreFactsOf graph.now levels.now no_cells level points.new.items }
+    ensures { AreFactsOf graph.now levels.now (cell_map cells.now) level points.new.items }
 {
     let header = levels[level].header;
     for p in flow.order.as_slice() {
-        set_place(graph, levels, header, flow, points, *p);
+        set_place(graph, cells, levels, header, flow, points, *p);
     }
 }
 
 /// What is known of each location before each word of the loop at this place among the levels of a nest, in
-/// address order: over the values that the locations have at that loop's header.
+/// address order: over the values that the locations have at that loop's header. Without cells it is what is known
+/// of registers alone.
 pub fn value_pass(
     alloc: Global,
     shape: &LoopShape,
@@ -251,14 +312,14 @@ pub fn value_pass(
     cells: &Cells,
 ) -> Result<Vec<Values>, AllocError>
     requires graph { IsInOrder graph.now }
+    requires cells { AreNumbered cells.now }
     requires nest { AreNest graph.now shape.now.levels }
     requires within { level < length shape.now.levels }
-    requires no_cells { HasNoCells cells.now }
     ensures { IfOk result (λ v. AreFactsOf graph.now shape.now.levels (cell_map cells.now) level v.items) }
 {
     let levels = shape.levels.as_slice();
-    let flow = loop_flow(alloc, graph, levels, level as usize)?;
+    let flow = loop_flow(alloc, graph, cells, levels, level as usize)?;
     let mut points = no_values(alloc, levels[level as usize].body.as_slice())?;
-    set_places(graph, levels, level as usize, &flow, &mut points);
+    set_places(graph, cells, levels, level as usize, &flow, &mut points);
     Ok(points)
 }

@@ -1,14 +1,14 @@
-ghost use Rattle.std.specs.Prelude.{◌≡◌, ◌<◌, ◌≤◌, ◌↔◌, ◌^◌, ◌+ℤ◌, ◌-ℤ◌, ◌*ℤ◌, ℤ, pos, Some, None, true, false, IsTrue};
+ghost use Rattle.std.specs.Prelude.{ℕ, ◌≡◌, ◌==◌, ◌&&◌, ◌+◌, ◌<◌, ◌≤◌, ◌↔◌, ◌^◌, ◌+ℤ◌, ◌-ℤ◌, ◌*ℤ◌, ℤ, pos, Some, None, true, false, IsTrue};
 ghost use Rattle.rv64_decode.specs.Row.{signed32, signed64};
 ghost use Rattle.linear_forms.specs.Forms.{constant_fits};
 ghost use Rattle.linear_forms.specs.Locations.{number_of};
-ghost use Rattle.loop_data.specs.Facts.{Fact, Number, Offset, ranged, short_of, fact_read, fact_sum, fact_difference, fact_short, fact_shifted, alu_fact, imm_fact, upper_fact, register_fact, fact_past};
-ghost use Rattle.loop_data.specs.Locations.{target, word_writes, no_cells};
+ghost use Rattle.loop_data.specs.Facts.{Fact, Number, Offset, ranged, short_of, fact_read, fact_sum, fact_difference, fact_short, fact_shifted, alu_fact, imm_fact, upper_fact, cell_fact, register_fact, store_fact, stored_fact, fact_past};
+ghost use Rattle.loop_data.specs.Locations.{first_cell, target, writes_cell, instr_writes};
 ghost use Rattle.loop_data.specs.Lookups.{fact_of, fact_in};
 
 use crate::values::Value;
 use linear_forms::Loc;
-use rv64_decode::{AluOp, ImmOp, Instr, Reg, UpperOp};
+use rv64_decode::{AluOp, ImmOp, Instr, Reg, StoreOp, UpperOp};
 
 /// The least number that no number of 32 bits reaches.
 const LIMIT: i64 = 1 << 31;
@@ -210,10 +210,20 @@ fn upper_value(op: UpperOp, at: u64, imm: i32) -> Value
     }
 }
 
+/// What is known of a cell, if there is one.
+fn cell_value(values: &[Value; 48], cell: Option<u8>) -> Value
+    ensures { fact_of result ≡ cell_fact cell (fact_in values.now) }
+{
+    match cell {
+        Some(k) if k < 16 => values[32 + k as usize],
+        _ => Value::Nothing,
+    }
+}
+
 /// What the instruction at an address writes to its register, out of the values before it. A load gives
-/// nothing.
-fn register_value(at: u64, instr: &Instr, values: &[Value; 48]) -> Value
-    ensures { fact_of result ≡ register_fact at instr.now None (fact_in values.now) }
+/// what is known of the cell that it accesses.
+fn register_value(at: u64, instr: &Instr, cell: Option<u8>, values: &[Value; 48]) -> Value
+    ensures { fact_of result ≡ register_fact at instr.now cell (fact_in values.now) }
 {
     match *instr {
         Instr::Alu {
@@ -229,6 +239,12 @@ fn register_value(at: u64, instr: &Instr, values: &[Value; 48]) -> Value
             imm,
         } => imm_value(op, read(values, rs1), imm),
         Instr::Upper { op, rd: _, imm } => upper_value(op, at, imm),
+        Instr::Load {
+            op: _,
+            rd: _,
+            rs1: _,
+            imm: _,
+        } => cell_value(values, cell),
         _ => Value::Nothing,
     }
 }
@@ -263,26 +279,94 @@ pub fn target_of(instr: &Instr) -> u8
     }
 }
 
-/// Whether a word of a loop without cells writes a location.
-pub fn word_writes(at: u64, instr: &Option<Instr>, r: usize) -> bool
-    ensures { result ≡ word_writes no_cells at instr.now r }
+/// What a store leaves in its cell of what it stores: of a known number the low 4 bytes, sign-extended, where
+/// it stores no more.
+fn store_value(op: StoreOp, a: Value) -> Value
+    ensures { fact_of result ≡ store_fact op (fact_of a) }
+{
+    match (op, a) {
+        (StoreOp::Sw, Value::Known(n)) => known(short(n)),
+        (StoreOp::Sw, Value::Base(loc, n)) => based(loc, n.cast_signed()),
+        _ => a,
+    }
+}
+
+/// What an instruction writes to the cell that it accesses, out of the values before it.
+fn stored_value(instr: &Instr, values: &[Value; 48]) -> Value
+    ensures { fact_of result ≡ stored_fact instr.now (fact_in values.now) }
+{
+    match *instr {
+        Instr::Store {
+            op,
+            rs1: _,
+            rs2,
+            imm: _,
+        } => store_value(op, read(values, rs2)),
+        _ => Value::Nothing,
+    }
+}
+
+/// Whether an instruction is a store, and so writes the cell that it accesses.
+pub fn is_store(instr: &Instr) -> bool
+    ensures { (k r : ℕ) → writes_cell instr.now (Some k) r ≡ (result && (first_cell + k == r)) }
+{
+    match *instr {
+        Instr::Store {
+            op: _,
+            rs1: _,
+            rs2: _,
+            imm: _,
+        } => true,
+        _ => false,
+    }
+}
+
+/// Whether an instruction that accesses this cell, if any, writes the cell at a location.
+fn writes_cell(instr: &Instr, cell: Option<u8>, r: usize) -> bool
+    ensures { result ≡ writes_cell instr.now cell r }
+{
+    match (*instr, cell) {
+        (
+            Instr::Store {
+                op: _,
+                rs1: _,
+                rs2: _,
+                imm: _,
+            },
+            Some(k),
+        ) => 32 + k as usize == r,
+        _ => false,
+    }
+}
+
+/// Whether an instruction that accesses this cell, if any, writes a location.
+pub fn instr_writes(instr: &Option<Instr>, cell: Option<u8>, r: usize) -> bool
+    ensures { result ≡ instr_writes instr.now cell r }
 {
     match instr {
-        Some(instr) => r != 0 && r < 32 && target_of(instr) as usize == r,
+        Some(instr) if r < 32 => r != 0 && target_of(instr) as usize == r,
+        Some(instr) => writes_cell(instr, cell, r),
         None => false,
     }
 }
 
-/// What is known of a location after a word of a loop without cells, out of what is known before it.
-pub fn value_after(at: u64, instr: &Option<Instr>, values: &[Value; 48], r: usize) -> Value
+/// What is known of a location after a word that accesses this cell, if any, out of what is known before it.
+pub fn value_after(
+    at: u64,
+    instr: &Option<Instr>,
+    cell: Option<u8>,
+    values: &[Value; 48],
+    r: usize,
+) -> Value
     requires { r < 48 }
-    ensures { fact_of result ≡ fact_past at instr.now (fact_in values.now) r }
+    ensures { fact_of result ≡ fact_past at instr.now cell (fact_in values.now) r }
 {
-    if !word_writes(at, instr, r) {
+    if !instr_writes(instr, cell, r) {
         return values[r];
     }
     match instr {
-        Some(instr) => register_value(at, instr, values),
+        Some(instr) if r < 32 => register_value(at, instr, cell, values),
+        Some(instr) => stored_value(instr, values),
         None => Value::Nothing,
     }
 }

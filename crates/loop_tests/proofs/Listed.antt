@@ -1,5 +1,5 @@
 -- Which of the listed loops are nests, and how many accesses a short one has.
-use Rattle.std.proofs.Common.{◌≡◌, ◌<◌, ◌≤◌, ◌⊎◌, inl, inr, ℕ, suc, List, [], ◌∷◌, Option, None, Some, length, ap, sym, ◌∙◌, subst, arith}
+use Rattle.std.proofs.Common.{Bool, false, is_some, refl, ◌≡◌, ◌<◌, ◌≤◌, ◌⊎◌, inl, inr, ℕ, suc, List, [], ◌∷◌, Option, None, Some, length, ap, sym, ◌∙◌, subst, arith}
 use Rattle.std.specs.Prelude.{slice_index_or}
 use Rattle.elf_image.specs.declared.image.Elf.{Elf}
 use Rattle.loop_data.specs.declared.graph.Graph.{Graph}
@@ -49,3 +49,11 @@ few_accesses G levels seen l xs B same at body short N is =
     let le = subst (λ (ys : List ℕ). length ys ≤ 32) (body ∙ ap (λ (m : Level). m.body) root) short in
     let c = count_short B N.root.body in
     omega arith
+
+-- where there is no fault
+none_if : {A : Type 0} (o : Option A) → is_some o ≡ false → o ≡ None
+none_if None e = refl
+none_if (Some x) e = absurd (cc)
+
+pub no_fault : {A : Type 0} (o : Option A) (b : Bool) → b ≡ is_some o → b ≡ false → o ≡ None
+no_fault o b e f = none_if o (sym e ∙ f)

@@ -1,7 +1,7 @@
 ghost use Rattle.std.specs.Prelude.{◌≡◌, ◌<◌, ◌^◌, [], None, length, slice_index_or, IfOk, IfSome, IsTrue};
 ghost use Rattle.loop_data.specs.declared.shape.LoopShape.{LoopShape as Shape};
 ghost use Rattle.loop_data.specs.LoopWords.{AreNest};
-ghost use Rattle.loop_data.specs.Lookups.{HasNoCells};
+ghost use Rattle.loop_data.specs.Lookups.{AreNumbered};
 ghost use Rattle.loop_data.specs.Paths.{IsInOrder};
 ghost use Rattle.loop_shapes.specs.Places.{count_of};
 
@@ -12,6 +12,7 @@ use flow_recovery::recover;
 use loop_data::{Cells, Graph, LoopShape};
 use loop_shapes::laws::nests;
 use loop_shapes::loops;
+use stack_slots::{cells, cells_are_found};
 use std::alloc::{AllocError, Global};
 
 mod access_rows;
@@ -32,13 +33,27 @@ struct Found {
 
 // No cells.
 fn no_cells() -> Cells
-    ensures { HasNoCells result }
+    ensures { AreNumbered result }
 {
     Cells {
         list: ArrayVec::new(),
         uses: ArrayVec::new(),
         fault: None,
     }
+}
+
+// The cells of a nest, where they do not decide against it.
+fn cells_in(alloc: Global, found: &Found) -> Result<Option<Cells>, AllocError>
+    requires graph { IsInOrder found.now.graph }
+    requires nest { AreNest found.now.graph found.now.shape.levels }
+    ensures { IfOk result (λ some. IfSome some AreNumbered) }
+{
+    cells_are_found();
+    let cells = cells(alloc, &found.shape, &found.graph)?;
+    if cells.fault.is_some() {
+        return Ok(None);
+    }
+    Ok(Some(cells))
 }
 
 // Whether a program has few words.

@@ -1,15 +1,15 @@
 -- Forms that come along edges, and terms place by place.
-use Rattle.std.proofs.Common.{◌≡◌, ◌≢◌, ℕ, zero, suc, ◌+◌, ◌<◌, ◌≤◌, ◌⊎◌, ◌↔◌, inl, inr, Bool, true, false, IsTrue, List, [], length, get_or, set, drop, Option, Some, None, refl, ap, sym, ◌∙◌, subst, arith, ℤ, to_z, of_z, w64, ◌==◌, ◌||◌, ◌++◌, ◌∷◌, if◌then◌else◌, take, replicate}
+use Rattle.std.proofs.Common.{◌≡◌, ◌≢◌, ℕ, zero, suc, ◌+◌, ◌<◌, ◌≤◌, ◌⊎◌, ◌↔◌, inl, inr, Bool, true, false, IsTrue, List, [], length, get_or, set, drop, Option, Some, None, refl, ap, sym, ◌∙◌, subst, arith, ℤ, to_z, of_z, w64, ◌==◌, ◌∷◌, if◌then◌else◌, replicate}
 use Rattle.std.specs.List.{All}
 use Rattle.std.proofs.lemmas.Bool.{cases_eq}
-use Rattle.std.proofs.lemmas.List.{get_or-set_same, get_or-set_other, get_or-map, take_more}
+use Rattle.std.proofs.lemmas.List.{get_or-set_same, get_or-set_other, get_or-map}
 use Rattle.linear_forms.specs.declared.location.Loc.{Loc}
 use Rattle.linear_forms.specs.Forms.{EntryTerm, LinearForm}
 use Rattle.linear_forms.specs.Locations.{term_of, terms_of}
 use Rattle.loop_data.specs.declared.classes.Class.{Class}
 use Rattle.loop_data.specs.declared.classes.Classes.{Classes}
 use Rattle.loop_data.specs.declared.shape.Level.{Level}
-use Rattle.loop_data.specs.LoopCode.{LoopCode, writes, any_writes}
+use Rattle.loop_data.specs.LoopCode.{LoopCode, any_writes}
 use Rattle.loop_data.specs.Equations.{header_form}
 use Rattle.loop_data.specs.Lookups.{classes_of, role_by}
 use Rattle.register_equations.specs.Rows.{forms_in}
@@ -72,23 +72,6 @@ small_class ms c l s = small_rows ms (c.root ∷ c.inner) l row
     row : (i : ℕ) → AreSmall (get_or (c.root ∷ c.inner) i [])
     row zero = s.root
     row (suc i) = s.inner i
-
-or_none : (a : Bool) → (a || false) ≡ a
-or_none true = refl
-or_none false = refl
-
-or_assoc : (a b c : Bool) → ((a || b) || c) ≡ (a || (b || c))
-or_assoc true b c = refl
-or_assoc false b c = refl
-
-writes_push : (B : LoopCode) (us : List ℕ) (u r : ℕ) → any_writes B (us ++ u ∷ []) r ≡ (any_writes B us r || writes B u r)
-writes_push B [] u r = or_none (writes B u r)
-writes_push B (x ∷ xs) u r = ap (λ b. writes B x r || b) (writes_push B xs u r) ∙ sym (or_assoc (writes B x r) (any_writes B xs r) (writes B u r))
-
--- a flag that tells whether one of the words writes, after one word more
-pub writes_more : (B : LoopCode) (us : List ℕ) (i r : ℕ) (old new : Bool) → i < length us → old ≡ any_writes B (take i us) r → new ≡ (old || writes B (get_or us i 0) r) → new ≡ any_writes B (take (i + 1) us) r
-writes_more B us i r old new l e f =
-    f ∙ ap (λ b. b || writes B (get_or us i 0) r) e ∙ sym (ap (λ xs. any_writes B xs r) (take_more us i 0 l) ∙ writes_push B (take i us) (get_or us i 0) r)
 
 pub none_set : (n r : ℕ) → get_or (replicate n false) r false ≡ false
 none_set zero zero = refl

@@ -9,13 +9,14 @@ use Rattle.std.proofs.lemmas.List.Elements.{Contains-append_left, Contains-push,
 use Rattle.linear_forms.specs.Forms.{LinearForm}
 use Rattle.loop_data.specs.declared.equations.Duty.{Duty}
 use Rattle.loop_data.specs.declared.equations.Point.{Point}
+use Rattle.loop_data.specs.declared.flow.Flow.{Flow}
 use Rattle.loop_data.specs.declared.shape.Level.{Level}
 use Rattle.loop_data.specs.LoopCode.{LoopCode}
 use Rattle.loop_data.specs.FormRows.{duty}
 use Rattle.loop_data.specs.Lookups.{form_at}
 use Rattle.loop_data.specs.Results.{IsInnermost, IsAround, IsDuty, AreDuties}
 use Rattle.register_equations.specs.Rows.{forms_in}
-use Rattle.register_equations.specs.States.{no_forms, point_at, IsDutyOf, duty_ats, IsDutyAdded, AreDutiesTo}
+use Rattle.register_equations.specs.States.{no_forms, point_at, owed_at, IsDutyOf, duty_ats, IsDutyAdded, AreDutiesTo}
 use Rattle.register_equations.proofs.Solving.{at_by}
 
 increasing_push : (xs : List ℕ) (a : ℕ) → IsStrictlyIncreasing xs → ((k : ℕ) → k < length xs → get_or xs k 0 < a) → IsStrictlyIncreasing (xs ++ a ∷ [])
@@ -37,22 +38,22 @@ increasing_push xs a up below k l = by (cases_lt (k + 1) (length xs))
         let z = below k (omega arith) in
         omega arith
 
-pub no_duties : (B : LoopCode) (levels : List Level) (points : List Point) → AreDutiesTo B levels points 0 []
-no_duties B levels points =
+pub no_duties : (flow : Flow) (levels : List Level) (points : List Point) → AreDutiesTo flow levels points 0 []
+no_duties flow levels points =
     record { ordered = λ k l. absurd (omega arith); each = λ d c. absurd (let l = c.1 in omega arith); every = λ k f l e. absurd (omega arith) }
 
-pub duty_more : (B : LoopCode) (levels : List Level) (points : List Point) (i : ℕ) (old new : List Duty) (o : Option LinearForm) → IsStrictlyIncreasing (map (λ (p : Point). p.at) points) → i < length points
-    → duty B (point_at points i).at (forms_in (point_at points i).forms) ≡ o → IsDutyAdded B levels (point_at points i) o old new → AreDutiesTo B levels points i old → AreDutiesTo B levels points (i + 1) new
-duty_more B levels points i old new None up l is e a = subst (AreDutiesTo B levels points (i + 1)) (sym e) (record {
+pub duty_more : (flow : Flow) (levels : List Level) (points : List Point) (i : ℕ) (old new : List Duty) (o : Option LinearForm) → IsStrictlyIncreasing (map (λ (p : Point). p.at) points) → i < length points
+    → owed_at flow points i ≡ o → IsDutyAdded levels (point_at points i) o old new → AreDutiesTo flow levels points i old → AreDutiesTo flow levels points (i + 1) new
+duty_more flow levels points i old new None up l is e a = subst (AreDutiesTo flow levels points (i + 1)) (sym e) (record {
   ordered = a.ordered;
   each = λ d c. let x = a.each d c in (x.0, (let m = x.1 in omega arith), x.2);
   every = λ k f m q. by k f m q (cases_eq k i);
 })
   where
-    by : (k : ℕ) (f : LinearForm) → k < i + 1 → duty B (point_at points k).at (forms_in (point_at points k).forms) ≡ Some f → (k ≡ i) ⊎ (k ≢ i) → Contains (duty_ats old) (point_at points k).at
-    by k f m q (inl s) = let z = subst (λ j. duty B (point_at points j).at (forms_in (point_at points j).forms) ≡ Some f) s q in absurd (let y = sym is ∙ z in cc)
+    by : (k : ℕ) (f : LinearForm) → k < i + 1 → owed_at flow points k ≡ Some f → (k ≡ i) ⊎ (k ≢ i) → Contains (duty_ats old) (point_at points k).at
+    by k f m q (inl s) = let z = subst (λ j. owed_at flow points j ≡ Some f) s q in absurd (let y = sym is ∙ z in cc)
     by k f m q (inr ne) = a.every k f (omega arith) q
-duty_more B levels points i old new (Some g) up l is (d, own, e) a = subst (AreDutiesTo B levels points (i + 1)) (sym e) (record {
+duty_more flow levels points i old new (Some g) up l is (d, own, e) a = subst (AreDutiesTo flow levels points (i + 1)) (sym e) (record {
   ordered = subst (λ xs. IsStrictlyIncreasing xs) (sym ats) (increasing_push (duty_ats old) d.at a.ordered below);
   each = λ x c. which x (Contains-push_cases old d x c);
   every = λ k f m q. by k f m q (cases_eq k i);
@@ -79,17 +80,17 @@ duty_more B levels points i old new (Some g) up l is (d, own, e) a = subst (AreD
         let w = own.at in
         omega arith
 
-    which : (x : Duty) → Contains old x ⊎ (d ≡ x) → (k : ℕ) × (k < i + 1) × IsDutyOf B levels (point_at points k) x
+    which : (x : Duty) → Contains old x ⊎ (d ≡ x) → (k : ℕ) × (k < i + 1) × IsDutyOf levels (point_at points k) (owed_at flow points k) x
     which x (inl c) = let y = a.each x c in (y.0, (let m = y.1 in omega arith), y.2)
-    which x (inr q) = (i, omega arith, subst (λ (z : Duty). IsDutyOf B levels (point_at points i) z) q own)
+    which x (inr q) = (i, omega arith, subst (λ (z : Duty). IsDutyOf levels (point_at points i) (owed_at flow points i) z) q (subst (λ (o : Option LinearForm). IsDutyOf levels (point_at points i) o d) (sym is) own))
 
-    by : (k : ℕ) (f : LinearForm) → k < i + 1 → duty B (point_at points k).at (forms_in (point_at points k).forms) ≡ Some f → (k ≡ i) ⊎ (k ≢ i) → Contains (duty_ats (old ++ d ∷ [])) (point_at points k).at
+    by : (k : ℕ) (f : LinearForm) → k < i + 1 → owed_at flow points k ≡ Some f → (k ≡ i) ⊎ (k ≢ i) → Contains (duty_ats (old ++ d ∷ [])) (point_at points k).at
     by k f m q (inl s) = subst (λ j. Contains (duty_ats (old ++ d ∷ [])) (point_at points j).at) (sym s) (subst (λ xs. Contains xs (point_at points i).at) (sym ats) (subst (λ y. Contains (duty_ats old ++ d.at ∷ []) y) own.at (Contains-push (duty_ats old) d.at)))
     by k f m q (inr ne) = subst (λ xs. Contains xs (point_at points k).at) (sym ats) (Contains-append_left (duty_ats old) (d.at ∷ []) (point_at points k).at (a.every k f (omega arith) q))
 
 -- they are those of the words of a body
-pub duties_right : (B : LoopCode) (levels : List Level) (ps : List Point) (body : List ℕ) (duties : List Duty) → map (λ (p : Point). p.at) ps ≡ body → IsStrictlyIncreasing body → AreDutiesTo B levels ps (length ps) duties → AreDuties levels body B (form_at ps) duties
-duties_right B levels ps body duties words up a = record { ordered = a.ordered; each = each; every = every }
+pub duties_right : (B : LoopCode) (flow : Flow) (levels : List Level) (ps : List Point) (body : List ℕ) (duties : List Duty) → map (λ (p : Point). p.at) ps ≡ body → IsStrictlyIncreasing body → ((k : ℕ) → k < length ps → owed_at flow ps k ≡ duty B (point_at ps k).at (forms_in (point_at ps k).forms)) → AreDutiesTo flow levels ps (length ps) duties → AreDuties levels body B (form_at ps) duties
+duties_right B flow levels ps body duties words up owes a = record { ordered = a.ordered; each = each; every = every }
   where
     count : length ps ≡ length body
     count = sym (length-map ps (λ (p : Point). p.at)) ∙ ap (λ (xs : List ℕ). length xs) words
@@ -114,7 +115,7 @@ duties_right B levels ps body duties words up a = record { ordered = a.ordered; 
         let k = y.0 in
         let own = y.2 in
         let there : Contains body (point_at ps k).at = subst (Contains body) (sym (at_place k y.1)) (Contains-get_or body k 0 (let n = count in let m = y.1 in omega arith)) in
-        let form : duty B (point_at ps k).at (form_at ps (point_at ps k).at) ≡ Some d.form = ap (λ (H : ℕ → Option LinearForm). duty B (point_at ps k).at H) (forms k y.1) ∙ own.form in (
+        let form : duty B (point_at ps k).at (form_at ps (point_at ps k).at) ≡ Some d.form = ap (λ (H : ℕ → Option LinearForm). duty B (point_at ps k).at H) (forms k y.1) ∙ sym (owes k y.1) ∙ own.form in (
           subst (Contains body) (sym own.at) there,
           record {
             form = subst (λ u. duty B u (form_at ps u) ≡ Some d.form) (sym own.at) form;
@@ -128,5 +129,5 @@ duties_right B levels ps body duties words up a = record { ordered = a.ordered; 
         let k = c.0 in
         let l : k < length ps = let n = count in let m = c.1 in omega arith in
         let q : (point_at ps k).at ≡ u = at_place k l ∙ get_or_default body k 0 u c.1 ∙ c.2 in
-        let g : duty B (point_at ps k).at (forms_in (point_at ps k).forms) ≡ Some f = ap (λ (H : ℕ → Option LinearForm). duty B (point_at ps k).at H) (sym (forms k l)) ∙ subst (λ z. duty B z (form_at ps z) ≡ Some f) (sym q) e in
+        let g : owed_at flow ps k ≡ Some f = owes k l ∙ ap (λ (H : ℕ → Option LinearForm). duty B (point_at ps k).at H) (sym (forms k l)) ∙ subst (λ z. duty B z (form_at ps z) ≡ Some f) (sym q) e in
         subst (Contains (duty_ats duties)) q (a.every k f l g)

@@ -3,7 +3,6 @@ use Rattle.std.proofs.Common.{◌≡◌, ◌≢◌, ℕ, zero, suc, ◌+◌, ◌
 use Rattle.std.specs.List.{All}
 use Rattle.std.proofs.lemmas.List.{get_or_default, get_or-map, length-map}
 use Rattle.std.proofs.lemmas.List.Elements.{Contains-get_or}
-use Rattle.rv64_decode.specs.declared.instr.Instr.{Instr}
 use Rattle.linear_forms.specs.Forms.{LinearForm}
 use Rattle.loop_data.specs.declared.classes.Classes.{Classes}
 use Rattle.loop_data.specs.declared.equations.Point.{Point}
@@ -12,11 +11,11 @@ use Rattle.loop_data.specs.declared.graph.Graph.{Graph}
 use Rattle.loop_data.specs.declared.shape.Level.{Level}
 use Rattle.loop_data.specs.Nests.{Nest, nest_of, In}
 use Rattle.loop_data.specs.LoopWords.{AreNest}
-use Rattle.loop_data.specs.Locations.{no_cells}
+use Rattle.loop_data.specs.Locations.{CellMap}
 use Rattle.loop_data.specs.LoopCode.{LoopCode, code_of, IsForwardIn}
 use Rattle.loop_data.specs.Equations.{AreForms}
 use Rattle.loop_data.specs.Flows.{rows, row_at, at, HasSources, IsOrder, IsFlow}
-use Rattle.loop_data.specs.Lookups.{form_at, roles_by}
+use Rattle.loop_data.specs.Lookups.{form_at, roles_by, AreFew}
 use Rattle.loop_data.specs.Results.{IsNestOf}
 use Rattle.loop_data.proofs.Steps.{contains_has}
 use Rattle.loop_data.proofs.FlowEdges.{forward_sources, place_of_word}
@@ -31,22 +30,22 @@ ats_kept [] p forms = refl
 ats_kept (x ∷ xs) zero forms = refl
 ats_kept (x ∷ xs) (suc p) forms = ap (λ ys. x.at ∷ ys) (ats_kept xs p forms)
 
-pub set_ats : (B : LoopCode) (levels inner : List Level) (root : Level) (c : Classes) (rs : List (List ℕ)) (instrs : List (Option Instr)) (p : ℕ) (old new : List Point) → AreFormsSet B levels inner root c rs instrs p old new → map (λ (v : Point). v.at) new ≡ map (λ (v : Point). v.at) old
-set_ats B levels inner root c rs instrs p old new s = ap (λ (ps : List Point). map (λ (v : Point). v.at) ps) s.is ∙ ats_kept old p s.state
+pub set_ats : (B : LoopCode) (levels inner : List Level) (root : Level) (c : Classes) (flow : Flow) (p : ℕ) (old new : List Point) → AreFormsSet B levels inner root c flow p old new → map (λ (v : Point). v.at) new ≡ map (λ (v : Point). v.at) old
+set_ats B levels inner root c flow p old new s = ap (λ (ps : List Point). map (λ (v : Point). v.at) ps) s.is ∙ ats_kept old p s.state
 
 pub counted : (ps : List Point) (body : List ℕ) → map (λ (v : Point). v.at) ps ≡ body → length ps ≡ length body
 counted ps body e = sym (length-map ps (λ (p : Point). p.at)) ∙ ap (λ (xs : List ℕ). length xs) e
 
 -- one place more of an order
-pub place_more : (B : LoopCode) (levels inner : List Level) (root : Level) (c : Classes) (rs : List (List ℕ)) (instrs : List (Option Instr)) (order : List ℕ) (i : ℕ) (old new : List Point) → IsOrder rs order → length rs ≡ length old → i < length order
-    → AreFormsSet B levels inner root c rs instrs (get_or order i 0) old new → ((j : ℕ) → j < i → IsFormPlace B levels inner root c rs instrs old (get_or order j 0)) → (j : ℕ) → j < i + 1 → IsFormPlace B levels inner root c rs instrs new (get_or order j 0)
-place_more B levels inner root c rs instrs order i old new o n l s before =
-    more_places B levels inner root c rs instrs order i old new l (let w = o.within i l in omega arith)
+pub place_more : (B : LoopCode) (levels inner : List Level) (root : Level) (c : Classes) (flow : Flow) (order : List ℕ) (i : ℕ) (old new : List Point) → IsOrder (rows flow.sources.items) order → length (rows flow.sources.items) ≡ length old → i < length order
+    → AreFormsSet B levels inner root c flow (get_or order i 0) old new → ((j : ℕ) → j < i → IsFormPlace B levels inner root c flow old (get_or order j 0)) → (j : ℕ) → j < i + 1 → IsFormPlace B levels inner root c flow new (get_or order j 0)
+place_more B levels inner root c flow order i old new o n l s before =
+    more_places B levels inner root c flow order i old new l (let w = o.within i l in omega arith)
     (λ j k m k_in e. let r = o.after j k (omega arith) k_in in let lt = r.1 in o.once r.0 i (omega arith) l (r.2 ∙ e))
     (λ j m. o.once j i m l) s before
 
-pub row_within : (G : Graph) (ls : List Level) (body : List ℕ) (flow : Flow) (ps : List Point) (p : ℕ) → IsFlow G ls body flow → length ps ≡ length body → All (λ k. k < length ps) (row_at (rows flow.sources.items) p)
-row_within G ls body flow ps p f n i d l =
+pub row_within : (G : Graph) (C : CellMap) (ls : List Level) (body : List ℕ) (flow : Flow) (ps : List Point) (p : ℕ) → IsFlow G C ls body flow → length ps ≡ length body → All (λ k. k < length ps) (row_at (rows flow.sources.items) p)
+row_within G C ls body flow ps p f n i d l =
     let row = row_at (rows flow.sources.items) p in
     let s = (f.sources.each p (get_or row i d) (i, l, get_or_default row i (get_or row i d) d l)).0 in
     omega arith
@@ -64,16 +63,16 @@ tail_of (x ∷ xs) = xs
 tails : (x y : Level) (xs ys : List Level) → x ∷ xs ≡ y ∷ ys → xs ≡ ys
 tails x y xs ys e = ap tail_of e
 
-pub row_some : (G : Graph) (ls : List Level) → AreNest G ls → (root : Level) (inner : List Level) → ls ≡ root ∷ inner → (flow : Flow) (ps : List Point) (p : ℕ) → IsFlow G ls root.body flow → map (λ (v : Point). v.at) ps ≡ root.body → p < length ps
+pub row_some : (G : Graph) (C : CellMap) (ls : List Level) → AreNest G ls → (root : Level) (inner : List Level) → ls ≡ root ∷ inner → (flow : Flow) (ps : List Point) (p : ℕ) → IsFlow G C ls root.body flow → map (λ (v : Point). v.at) ps ≡ root.body → p < length ps
     → (point_at ps p).at ≢ root.header → 1 ≤ length (row_at (rows flow.sources.items) p)
-row_some G ls nest root inner split flow ps p f words l ne = by (heads nest.root root nest.inner inner (sym nest.are ∙ split))
+row_some G C ls nest root inner split flow ps p f words l ne = by (heads nest.root root nest.inner inner (sym nest.are ∙ split))
   where
     by : nest.root ≡ root → 1 ≤ length (row_at (rows flow.sources.items) p)
     by e =
         let body = nest.root.body in
         let w : map (λ (v : Point). v.at) ps ≡ body = words ∙ ap (λ (z : Level). z.body) (sym e) in
         let n = counted ps body w in
-        let g = subst (λ (z : Level). IsFlow G ls z.body flow) (sym e) f in
+        let g = subst (λ (z : Level). IsFlow G C ls z.body flow) (sym e) f in
         let lp : p < length body = omega arith in
         let a : (point_at ps p).at ≡ at body p = sym (get_or-map (λ (q : Point). q.at) ps p no_forms 0 l) ∙ ap (λ (xs : List ℕ). get_or xs p 0) w in
         let away : at body p ≢ nest.root.header = λ q. ne (a ∙ q ∙ ap (λ (z : Level). z.header) e) in
@@ -85,19 +84,19 @@ row_some G ls nest root inner split flow ps p f words l ne = by (heads nest.root
         omega arith
 
 -- the forms solve the equations of the nest
-pub all_solved : (G : Graph) (ls : List Level) → AreNest G ls → (root : Level) (inner : List Level) → ls ≡ root ∷ inner → (c : Classes) (flow : Flow) (ps : List Point) → IsFlow G ls root.body flow → map (λ (v : Point). v.at) ps ≡ root.body
-    → ((j : ℕ) → j < length flow.order.items → IsFormPlace (code_of G no_cells) ls inner root c (rows flow.sources.items) flow.instrs.items ps (get_or flow.order.items j 0)) → AreSolvedPoints G ls c ps
-all_solved G ls nest root inner split c flow ps f words right = by (heads root nest.root inner nest.inner (sym split ∙ nest.are)) (tails root nest.root inner nest.inner (sym split ∙ nest.are))
+pub all_solved : (G : Graph) (C : CellMap) → AreFew C → (ls : List Level) → AreNest G ls → (root : Level) (inner : List Level) → ls ≡ root ∷ inner → (c : Classes) (flow : Flow) (ps : List Point) → IsFlow G C ls root.body flow → map (λ (v : Point). v.at) ps ≡ root.body
+    → ((j : ℕ) → j < length flow.order.items → IsFormPlace (code_of G C) ls inner root c flow ps (get_or flow.order.items j 0)) → AreSolvedPoints G C ls c ps
+all_solved G C few ls nest root inner split c flow ps f words right = by (heads root nest.root inner nest.inner (sym split ∙ nest.are)) (tails root nest.root inner nest.inner (sym split ∙ nest.are))
   where
-    by : root ≡ nest.root → inner ≡ nest.inner → AreSolvedPoints G ls c ps
+    by : root ≡ nest.root → inner ≡ nest.inner → AreSolvedPoints G C ls c ps
     by e d =
         let w : map (λ (v : Point). v.at) ps ≡ nest.root.body = words ∙ ap (λ (z : Level). z.body) e in
-        let g = subst (λ (z : Level). IsFlow G ls z.body flow) e f in
-        let r : (j : ℕ) → j < length flow.order.items → IsFormPlace (code_of G no_cells) ls nest.inner nest.root c (rows flow.sources.items) flow.instrs.items ps (get_or flow.order.items j 0) =
-        λ j l. subst (λ (z : Level). IsFormPlace (code_of G no_cells) ls nest.inner z c (rows flow.sources.items) flow.instrs.items ps (get_or flow.order.items j 0)) e
-        (subst (λ (zs : List Level). IsFormPlace (code_of G no_cells) ls zs root c (rows flow.sources.items) flow.instrs.items ps (get_or flow.order.items j 0)) d (right j l)) in
-        let s = solved G ls nest c flow ps g w r in
-        record { words = λ M n. w ∙ ap (λ (z : Nest). z.root.body) (is M n); forms = λ M n. subst (λ (z : Nest). AreForms z (code_of G no_cells) (roles_by (code_of G no_cells) ls c) (form_at ps)) (is M n) s }
+        let g = subst (λ (z : Level). IsFlow G C ls z.body flow) e f in
+        let r : (j : ℕ) → j < length flow.order.items → IsFormPlace (code_of G C) ls nest.inner nest.root c flow ps (get_or flow.order.items j 0) =
+        λ j l. subst (λ (z : Level). IsFormPlace (code_of G C) ls nest.inner z c flow ps (get_or flow.order.items j 0)) e
+        (subst (λ (zs : List Level). IsFormPlace (code_of G C) ls zs root c flow ps (get_or flow.order.items j 0)) d (right j l)) in
+        let s = solved G C few ls nest c flow ps g w r in
+        record { words = λ M n. w ∙ ap (λ (z : Nest). z.root.body) (is M n); forms = λ M n. subst (λ (z : Nest). AreForms z (code_of G C) (roles_by (code_of G C) ls c) (form_at ps)) (is M n) s }
       where
         is : (M : Nest) → IsNestOf G ls M → nest_of G nest.root nest.inner ≡ M
         is M n =

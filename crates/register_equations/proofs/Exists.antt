@@ -4,12 +4,12 @@ use Rattle.std.proofs.lemmas.Bool.{cases_eq}
 use mathlib.Core.Path.{fun_ext}
 use Rattle.linear_forms.specs.Forms.{LinearForm, stride, is_zero}
 use Rattle.loop_data.specs.declared.shape.Level.{Level}
-use Rattle.loop_data.specs.Nests.{Nest, Edge, has, In, levels, Among, Holds, IsNest}
+use Rattle.loop_data.specs.Nests.{Nest, has, In, levels, Holds, IsNest}
 use Rattle.loop_data.specs.LoopCode.{LoopCode, IsForwardIn}
 use Rattle.loop_data.specs.Independent.{Role}
 use Rattle.loop_data.specs.FormRows.{form_after}
-use Rattle.loop_data.specs.Equations.{entry_form, header_form, Carries, Arrives, Meets, HeadsNone, AreForms}
-use Rattle.loop_data.proofs.Tests.{eq_of, ne_of, is_eq, is_ne, true_or_false, and_true, true_and, not_true}
+use Rattle.loop_data.specs.Equations.{entry_form, header_form, Carries, Meets, HeadsNone, AreForms}
+use Rattle.loop_data.proofs.Tests.{eq_of, is_eq, is_ne, and_true, true_and}
 use Rattle.loop_data.proofs.Agreement.{meet, met, meet_same}
 use Rattle.loop_data.proofs.FactsExist.{is_forward, forward, passes, rises, led}
 use Rattle.register_equations.proofs.Joined.{cases_form}

@@ -1,9 +1,11 @@
 -- The classes of a nest and the equations by them are such that the forms hold.
-use Rattle.std.proofs.Common.{◌≡◌, ◌≢◌, ℕ, zero, suc, ◌<◌, ◌⊎◌, inl, inr, true, if◌then◌else◌, List, [], ◌∷◌, length, map, get_or, ℤ, pos, negsuc, Option, Some, None, refl, ap, sym, ◌∙◌, subst, arith}
+use Rattle.std.proofs.Common.{◌≡◌, ◌≢◌, ℕ, zero, suc, ◌-◌, ◌<◌, ◌≤◌, ◌⊎◌, inl, inr, nat_lt, true, if◌then◌else◌, List, [], ◌∷◌, length, map, get_or, ℤ, pos, negsuc, Option, Some, None, refl, ap, sym, ◌∙◌, subst, arith}
 use Rattle.std.specs.List.{Contains}
-use Rattle.std.proofs.lemmas.Bool.{cases_eq}
-use Rattle.linear_forms.specs.Forms.{LinearForm, EntryTerm, exact}
-use Rattle.loop_data.specs.declared.cells.Cells.{Cells}
+use Rattle.std.proofs.lemmas.Bool.{cases_eq, cases_lt}
+use Rattle.std.proofs.lemmas.Bool.Decides.{nat_tests}
+use Rattle.rv64_decode.specs.Registers.{register}
+use Rattle.rv64_decode.specs.Row.{asks}
+use Rattle.linear_forms.specs.Forms.{Alike, LinearForm, EntryTerm, exact}
 use Rattle.loop_data.specs.declared.classes.Class.{Class}
 use Rattle.loop_data.specs.declared.classes.Classes.{Classes}
 use Rattle.loop_data.specs.declared.equations.Duty.{Duty}
@@ -12,26 +14,35 @@ use Rattle.loop_data.specs.declared.graph.Graph.{Graph}
 use Rattle.loop_data.specs.declared.shape.Level.{Level}
 use Rattle.loop_data.specs.Nests.{Nest, In, Among, Holds, IsNest, nest_of}
 use Rattle.loop_data.specs.LoopWords.{AreNest}
-use Rattle.loop_data.specs.Runs.{State, walk}
-use Rattle.loop_data.specs.Locations.{CellMap, no_cells}
-use Rattle.loop_data.specs.LoopCode.{LoopCode, code_of, any_writes, writes}
-use Rattle.loop_data.specs.Independent.{Role, Moves}
+use Rattle.loop_data.specs.declared.verdict.Cell.{Cell}
+use Rattle.loop_data.specs.Runs.{State, run, walk, asks_of, granted, access}
+use Rattle.loop_data.specs.Locations.{CellMap, no_cells, first_cell, cell_at, address, width_of, held, moves_cell}
+use Rattle.loop_data.specs.LoopCode.{LoopCode, instr_among, code_of, any_writes, writes, IsUnwritten}
+use Rattle.loop_data.specs.Independent.{Role, Keeps, Moves, Private, IsAccess}
 use Rattle.loop_data.specs.Facts.{Fact}
+use Rattle.loop_data.specs.FactPass.{AreFacts}
+use Rattle.loop_data.specs.FoundCells.{AreFoundCells}
+use Rattle.loop_data.specs.Accesses.{motion_of}
 use Rattle.loop_data.specs.Classes.{HasRole, HasInnerRole}
 use Rattle.loop_data.specs.FormRows.{form_after, duty}
 use Rattle.loop_data.specs.Equations.{plus_constant, IsConfirmed}
 use Rattle.loop_data.specs.Holds.{entry_of, times, HoldsAt}
-use Rattle.loop_data.specs.Lookups.{cell_map, HasNoCells, form_at, role_by, roles_by, classes_of}
-use Rattle.loop_data.specs.Executing.{AreProgramWords, IsOf32Bits}
+use Rattle.loop_data.specs.Lookups.{cell_map, form_at, role_by, roles_by, classes_of}
+use Rattle.loop_data.specs.Executing.{AreProgramWords, AreCellWords, AreAtCells, IsOf32Bits}
 use Rattle.loop_data.specs.Results.{IsNestOf, IsUnconfirmed, IsLeastLocation, AreEquations, AreClasses, class_in}
-use Rattle.loop_data.proofs.Tests.{is_eq, is_ne}
+use Rattle.loop_data.proofs.Tests.{is_eq, is_ne, yes_no}
 use Rattle.loop_data.proofs.Steps.{has_contains}
 use Rattle.loop_data.proofs.FactsExist.{facts_exist}
-use Rattle.loop_data.proofs.ValuePlaces.{cells_none}
-use Rattle.loop_data.proofs.NestVisits.{are_given, holds_word}
-use Rattle.register_equations.specs.FormLaws.{AreSolved, MeetsDuties, MeetsListed}
+use Rattle.loop_data.proofs.NestVisits.{AreGiven, are_given, here, holds_word, visit, executes_less}
+use Rattle.loop_data.proofs.FormWords.{Right}
+use Rattle.register_equations.specs.FormLaws.{AreSolved, MeetsDuties, MeetsListed, ResultLaw, ResultTurnsLaw}
 use Rattle.register_equations.proofs.Solutions.{roles_solve}
 use Rattle.register_equations.proofs.Runs.{form_law}
+use Rattle.register_equations.proofs.FixedFacts.{fixed_facts}
+use Rattle.register_equations.proofs.CellAddresses.{found_at, accesses_cell, motion_range}
+
+low : (q : ℕ) → q < 32 → nat_lt q first_cell ≡ true
+low q l = grind (arith, nat_tests)
 
 -- two forms are the same, or are not
 cases_int : (a b : ℤ) → (a ≡ b) ⊎ (a ≢ b)
@@ -144,12 +155,12 @@ duty_at (d ∷ ds) u (suc k) l e = let r = duty_at ds u k (omega arith) e in (r.
 same_form : (f g : LinearForm) → Some f ≡ Some g → f ≡ g
 same_form f g e = cc
 
-module _ (G : Graph) (ls : List Level) (nest : AreNest G ls) (words : AreProgramWords G) (c : Classes) (e : Equations) (classes : AreClasses G ls no_cells c) (equations : AreEquations G ls no_cells c e) where
+module _ (G : Graph) (ls : List Level) (nest : AreNest G ls) (words : AreProgramWords G) (c : Classes) (e : Equations) (C : CellMap) (classes : AreClasses G ls C c) (equations : AreEquations G ls C c e) where
   abbrev N : Nest
   N = nest_of G nest.root nest.inner
 
   abbrev B : LoopCode
-  B = code_of G no_cells
+  B = code_of G C
 
   abbrev roles : Level → ℕ → Role
   roles = roles_by B ls c
@@ -194,23 +205,102 @@ module _ (G : Graph) (ls : List Level) (nest : AreNest G ls) (words : AreProgram
       (confirmed_at N B roles at (subst (IsLeastLocation (IsUnconfirmed N B roles at)) none (equations.unconfirmed N of)))
 
   met : (s : State) (n : ℕ) → MeetsListed N B e.duties s n → MeetsDuties N B at s n
-  met s n listed = record { executes = listed.executes; duties = each }
+  met s n listed = record { executes = listed.executes; leaves = listed.leaves; duties = each }
     where
       each : (m : ℕ) (f : LinearForm) → m < n → duty B (walk s m) (at (walk s m)) ≡ Some f → IsOf32Bits (exact f (entry_of B.cells s) (times N s m))
       each m f lt owes =
-          let inside = holds_word N B (are_given G ls nest no_cells words) s n listed.executes m (omega arith) in
+          let inside = holds_word N B (are_given G ls nest C words) s n listed.executes m (omega arith) in
           let has_one = (equations.duties N of).every (walk s m) f (has_contains N.root.body (walk s m) inside) owes in
           let d = duty_at e.duties (walk s m) has_one.0 has_one.1 has_one.2 in
           let is = ((equations.duties N of).each d.0 d.1).1.form in
           let same = same_form f (d.0).form (sym owes ∙ subst (λ u. duty B u (at u) ≡ Some (d.0).form) d.2 is) in
           subst (λ g. IsOf32Bits (exact g (entry_of B.cells s) (times N s m))) (sym same) (listed.met m d.0 lt d.1 (sym d.2))
 
-  holds_here : (s : State) (n : ℕ) → e.unconfirmed ≡ None → MeetsListed N B e.duties s n → HoldsAt N B.cells at s n
-  holds_here s n none listed = form_law G ls nest words roles at s n (solved none) (met s n listed)
+  -- a location that a loop does not write keeps its value there
+  keeps : (l : Level) → Among N l → (r : ℕ) → IsUnwritten B l r → roles l r ≡ Keeps
+  keeps l (inl q) r un = subst (λ (z : Level). IsUnwritten B z r → roles z r ≡ Keeps) q (λ un. let o = outer r in by_root (roles N.root r) o.0 un o.1) un
+    where
+      by_root : (role : Role) (V : ℕ → ℕ → Option Fact) → IsUnwritten B N.root r → HasRole N B V r role → role ≡ Keeps
+      by_root Keeps V un h = refl
+      by_root (Moves step) V un h = absurd (yes_no (writes B h.word r) h.does (un h.word h.inside))
+      by_root Private V un h = let w = h.0 in absurd (yes_no (writes B w.word r) w.does (un w.word w.inside))
+  keeps l (inr i) r un = let o = inner l i r in by_inner (roles l r) o.0 o.1
+    where
+      by_inner : (role : Role) (V : ℕ → ℕ → Option Fact) → HasInnerRole N B V l r role → role ≡ Keeps
+      by_inner Keeps V h = refl
+      by_inner (Moves step) V h = absurd (yes_no (writes B h.word r) h.does (un h.word h.inside))
+      by_inner Private V h = let w = h.0 in absurd (yes_no (writes B w.word r) w.does (un w.word w.inside))
 
-pub holds : (G : Graph) (ls : List Level) (nest : AreNest G ls) → AreProgramWords G → (cells : Cells) (c : Classes) (e : Equations) (s : State) (n : ℕ) → HasNoCells cells
-    → AreClasses G ls (cell_map cells) c → AreEquations G ls (cell_map cells) c e → e.unconfirmed ≡ None
-    → MeetsListed (nest_of G nest.root nest.inner) (code_of G no_cells) e.duties s n → HoldsAt (nest_of G nest.root nest.inner) no_cells (form_at e.points) s n
-holds G ls nest words cells c e s n none classes equations confirmed =
-    let same = cells_none cells none.cells none.uses in
-    holds_here G ls nest words c e (subst (λ (C : CellMap). AreClasses G ls C c) same classes) (subst (λ (C : CellMap). AreEquations G ls C c e) same equations) s n confirmed
+  module _ (V : ℕ → ℕ → Option Fact) (pass : AreFacts N (code_of G no_cells) N.root V) (found : AreFoundCells N B V) (none : e.unconfirmed ≡ None) where
+    cell_words : AreCellWords N.root B
+    cell_words = record { uses = λ u k h q. let f = found u k h q in (f.cell, f.at, f.width) }
+
+    same_cell : (x y : Cell) → Some x ≡ Some y → x ≡ y
+    same_cell x y e = cc
+
+    -- the entry value of a register, and its form's value at a visit
+    entry_is : (s : State) (q : ℕ) → q < 32 → entry_of C s q ≡ pos (register s.regs q)
+    entry_is s q l = let b = low q l in ap pos (ap (λ t. if t then register s.regs q else held s.regs (cell_at C.cells (q - first_cell)) s.memory) b)
+
+    register_right : (s : State) (n : ℕ) → HoldsAt N C at s n → (q : ℕ) → q < 32 → Right (entry_of C s) (times N s n) (register (run s n).regs q) (at (walk s n) q)
+    register_right s n forms q l f h =
+        let b = low q l in
+        subst (λ x. Alike (pos x) (exact f (entry_of C s) (times N s n))) (ap (λ t. if t then register (run s n).regs q else held s.regs (cell_at C.cells (q - first_cell)) (run s n).memory) b) (forms q f h)
+
+    -- the word of a visit from which the run goes on accesses the cell that it uses
+    at_cell : (s : State) (n k : ℕ) (x : Cell) → MeetsListed N B e.duties s (suc n) → HoldsAt N C at s n → C.uses (walk s n) ≡ Some k → cell_at C.cells k ≡ Some x
+        → IsAccess (access (run s n)) (address s.regs x) (width_of x)
+    at_cell s n k x listed held use_is cell_is =
+        let ex = listed.executes in
+        let inside = holds_word N B given s (suc n) ex n (omega arith) in
+        let v = visit N B given s (suc n) ex n (omega arith) in
+        let f = found (walk s n) k inside use_is in
+        let same = same_cell f.cell x (sym f.at ∙ cell_is) in
+        let moves : motion_of (Some v.does) ≡ Some f.moves = subst (λ o. motion_of o ≡ Some f.moves) v.is f.is in
+        let range = motion_range v.does f.moves v.range moves in
+        let right = register_right s n held (f.moves).base range.0 in
+        let here_is = found_at N B (V (walk s n)) (at (walk s n)) (entry_of C s) (times N s n) s.regs (run s n).regs f.cell (f.moves).base (f.moves).offset (entry_is s)
+        (fixed_facts N nest.nest (instr_among G.words) C V roles at pass (equations.forms N of) keeps (walk s n) inside (f.moves).base)
+        right range.1 f.address f.base f.near in
+        let goes = sym (ap (λ (z : State). z.next) v.next) ∙ here N B given s (suc n) ex (suc n) (omega arith) in
+        let own = accesses_cell v.does f.moves f.cell (walk s n) (walk s (suc n)) s.regs (run s n).regs (run s n).memory moves (subst (λ o. moves_cell o (f.cell).wide ≡ true) v.is f.width) here_is goes in
+        let there : access (run s n) ≡ granted (run s n).memory (asks v.does (run s n).regs) = ap (λ o. granted (run s n).memory (asks_of o (run s n).regs)) (ex.words n (omega arith) ∙ v.is) in
+        subst (λ c. IsAccess (access (run s n)) (address s.regs c) (width_of c)) same (subst (λ a. IsAccess a (address s.regs f.cell) (width_of f.cell)) (sym there) own)
+      where
+        given : AreGiven N B
+        given = are_given G ls nest C words
+
+    less : (s : State) (n : ℕ) → MeetsListed N B e.duties s (suc n) → MeetsListed N B e.duties s n
+    less s n listed = record {
+      executes = executes_less N.root B s (suc n) n (omega arith) listed.executes;
+      leaves = record { others = λ m k b c lt. (listed.leaves).others m k b c (omega arith); areas = (listed.leaves).areas };
+      met = λ m d lt. listed.met m d (omega arith);
+    }
+
+    -- each word that uses a cell accesses its bytes, and so the forms hold
+    pub holds_here : (s : State) (n : ℕ) → MeetsListed N B e.duties s n → HoldsAt N C at s n × AreAtCells C s n
+    holds_here s zero listed =
+        let own : AreAtCells C s 0 = λ m k c lt. absurd (omega arith) in
+        (form_law G ls nest words C roles at s 0 (solved none) cell_words own (met s 0 listed), own)
+    holds_here s (suc n) listed = go (holds_here s n (less s n listed))
+      where
+        go : HoldsAt N C at s n × AreAtCells C s n → HoldsAt N C at s (suc n) × AreAtCells C s (suc n)
+        go before =
+            let own : AreAtCells C s (suc n) = λ m k c lt u q. by m k c (cases_lt m n) lt u q in
+            (form_law G ls nest words C roles at s (suc n) (solved none) cell_words own (met s (suc n) listed), own)
+          where
+            by : (m k : ℕ) (c : Cell) → (m < n) ⊎ (n ≤ m) → m < suc n → C.uses (walk s m) ≡ Some k → cell_at C.cells k ≡ Some c → IsAccess (access (run s m)) (address s.regs c) (width_of c)
+            by m k c (inl l) lt u q = before.1 m k c l u q
+            by m k c (inr l) lt u q =
+                let z : n ≡ m = omega arith in
+                subst (λ j. C.uses (walk s j) ≡ Some k → IsAccess (access (run s j)) (address s.regs c) (width_of c)) z (λ w. at_cell s n k c listed before.0 w q) u
+
+pub result_law : ResultLaw
+result_law G ls nest words cells c e s n are =
+    holds_here G ls nest words c e (cell_map cells) are.classes are.equations are.facts are.pass are.found are.confirmed s n
+
+pub result_turns_law : ResultTurnsLaw
+result_turns_law G ls nest words cells c e s p are each = (
+  λ n lt inside. (result_law G ls nest words cells c e s n are (each n lt inside)).0,
+  λ n lt inside. (result_law G ls nest words cells c e s n are (each n lt inside)).1,
+)

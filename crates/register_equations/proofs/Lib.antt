@@ -12,5 +12,8 @@ pub mod Ending
 pub mod Unique
 pub mod DutyLists
 pub mod Equated
+pub mod FixedFacts
+pub mod CellAddresses
 pub mod Joined
 pub mod Exists
+pub mod Entries

@@ -1,5 +1,5 @@
 -- Forms that are right place by place solve the equations.
-use Rattle.std.proofs.Common.{◌≡◌, ◌≢◌, ℕ, zero, suc, ◌<◌, ◌≤◌, ◌⊎◌, ◌↔◌, inl, inr, ◌==◌, Bool, true, false, if◌then◌else◌, nat_lt, List, [], ◌∷◌, length, map, get_or, Option, Some, None, refl, ap, sym, ◌∙◌, subst, arith, ℤ, pos}
+use Rattle.std.proofs.Common.{◌≡◌, ◌≢◌, ℕ, zero, suc, ◌-◌, ◌<◌, ◌≤◌, ◌⊎◌, ◌↔◌, inl, inr, ◌==◌, Bool, true, false, if◌then◌else◌, nat_lt, List, [], ◌∷◌, length, map, get_or, Option, Some, None, refl, ap, sym, ◌∙◌, subst, arith, ℤ, pos}
 use Rattle.std.specs.List.{All, Contains}
 use Rattle.std.proofs.lemmas.Bool.{cases_eq}
 use Rattle.std.proofs.lemmas.Bool.Decides.{nat_tests}
@@ -15,19 +15,18 @@ use Rattle.loop_data.specs.declared.graph.Graph.{Graph}
 use Rattle.loop_data.specs.declared.shape.Level.{Level}
 use Rattle.loop_data.specs.Nests.{Nest, has, nest_of, In, levels, Among, Holds}
 use Rattle.loop_data.specs.LoopWords.{AreNest}
-use Rattle.loop_data.specs.Locations.{no_cells, word_writes, writes_register, writes_cell, first_cell}
+use Rattle.loop_data.specs.Locations.{CellMap, cell_at, first_cell}
 use Rattle.loop_data.specs.LoopCode.{LoopCode, instr_among, code_of, is_location, IsForwardIn}
 use Rattle.loop_data.specs.Independent.{Role, Keeps, Moves, Private}
 use Rattle.loop_data.specs.FormRows.{form_after, written_form}
 use Rattle.loop_data.specs.Equations.{entry_form, with_step, header_form, Carries, Arrives, Meets, HeadsNone, AreForms}
 use Rattle.loop_data.specs.Flows.{rows, row_at, at, HasSources, IsFlow}
-use Rattle.loop_data.specs.Lookups.{form_at, roles_by}
+use Rattle.loop_data.specs.Lookups.{form_at, roles_by, AreFew}
 use Rattle.loop_data.proofs.Tests.{is_eq, is_ne, true_or_false, yes_no, not_true}
 use Rattle.loop_data.proofs.Steps.{contains_has}
 use Rattle.loop_data.proofs.Strides.{Without, without_after}
-use Rattle.loop_data.proofs.FormWords.{no_cell}
 use Rattle.loop_data.proofs.FlowEdges.{sources_forward, forward_sources, place_of_word, listed_in}
-use Rattle.loop_data.proofs.ValuePlaces.{some_source}
+use Rattle.loop_data.proofs.ValuePlaces.{none_beyond, some_source}
 use Rattle.register_equations.specs.Rows.{forms_in}
 use Rattle.register_equations.specs.States.{code_with, no_forms, point_at, past, IsKept, Comes, IsMet, IsHeaderForm, AreFormsAt, IsFormPlace}
 
@@ -133,23 +132,20 @@ entry_free B r d = go (r == 0) (is_location B r)
     go false true f e = let q : moving r (pos 0) ≡ f = cc in ap (λ (h : LinearForm). stride h d) (sym q) ∙ stride_entry r d
     go false false f e = absurd (cc)
 
-entry_beyond : (G : Graph) (r : ℕ) → 48 ≤ r → entry_form (code_of G no_cells) r ≡ None
-entry_beyond G r l =
+entry_beyond : (G : Graph) (C : CellMap) → AreFew C → (r : ℕ) → 48 ≤ r → entry_form (code_of G C) r ≡ None
+entry_beyond G C few r l =
     let a : (r == 0) ≡ false = is_ne r 0 (λ e. omega arith) in
     let b : nat_lt r first_cell ≡ false = not_low r first_cell (omega arith) in
-    rw (a, b) refl
+    let c : cell_at C.cells (r - first_cell) ≡ None = few.cells (r - first_cell) (omega arith) in
+    rw a (rw b (rw c refl))
 
-no_write : (u r : ℕ) (i : Option Instr) → 48 ≤ r → word_writes no_cells u i r ≡ false
-no_write u r None l = refl
-no_write u r (Some i) l = ap (λ c. if c then writes_register i r else writes_cell i None r) (not_low r first_cell (omega arith)) ∙ no_cell i r
-
-module _ (G : Graph) (ls : List Level) (nest : AreNest G ls) (c : Classes) (flow : Flow) (ps : List Point) (f : IsFlow G ls nest.root.body flow) (words : map (λ (p : Point). p.at) ps ≡ nest.root.body)
-    (right : (j : ℕ) → j < length flow.order.items → IsFormPlace (code_of G no_cells) ls nest.inner nest.root c (rows flow.sources.items) flow.instrs.items ps (get_or flow.order.items j 0)) where
+module _ (G : Graph) (C : CellMap) (few : AreFew C) (ls : List Level) (nest : AreNest G ls) (c : Classes) (flow : Flow) (ps : List Point) (f : IsFlow G C ls nest.root.body flow) (words : map (λ (p : Point). p.at) ps ≡ nest.root.body)
+    (right : (j : ℕ) → j < length flow.order.items → IsFormPlace (code_of G C) ls nest.inner nest.root c flow ps (get_or flow.order.items j 0)) where
   abbrev pub N : Nest
   N = nest_of G nest.root nest.inner
 
   abbrev pub B : LoopCode
-  B = code_of G no_cells
+  B = code_of G C
 
   abbrev body : List ℕ
   body = nest.root.body
@@ -183,40 +179,46 @@ module _ (G : Graph) (ls : List Level) (nest : AreNest G ls) (c : Classes) (flow
   instr_place : (k : ℕ) → k < length body → get_or flow.instrs.items k None ≡ instr_among G.words (at body k)
   instr_place k l = ap (λ (xs : List (Option Instr)). get_or xs k None) f.instrs ∙ get_or-map (instr_among G.words) body k 0 None l
 
-  past_is : (k r : ℕ) → k < length body → past flow.instrs.items ps k r ≡ form_after B (at body k) (F (at body k)) r
+  use_place : (k : ℕ) → k < length body → get_or flow.uses.items k None ≡ C.uses (at body k)
+  use_place k l = ap (λ (xs : List (Option ℕ)). get_or xs k None) f.uses ∙ get_or-map C.uses body k 0 None l
+
+  past_is : (k r : ℕ) → k < length body → past flow ps k r ≡ form_after B (at body k) (F (at body k)) r
   past_is k r l =
-      ap (λ (i : Option Instr). form_after (code_with i) (point_at ps k).at (forms_in (point_at ps k).forms) r) (instr_place k l)
-      ∙ ap (λ u. form_after (code_with (instr_among G.words (at body k))) u (forms_in (point_at ps k).forms) r) (at_place k l)
-      ∙ ap (λ (H : ℕ → Option LinearForm). form_after (code_with (instr_among G.words (at body k))) (at body k) H r) (sym (form_place k l))
+      let i = instr_among G.words (at body k) in
+      let u = C.uses (at body k) in
+      ap (λ (j : Option Instr). form_after (code_with j (get_or flow.uses.items k None)) (point_at ps k).at (forms_in (point_at ps k).forms) r) (instr_place k l)
+      ∙ ap (λ (j : Option ℕ). form_after (code_with i j) (point_at ps k).at (forms_in (point_at ps k).forms) r) (use_place k l)
+      ∙ ap (λ v. form_after (code_with i u) v (forms_in (point_at ps k).forms) r) (at_place k l)
+      ∙ ap (λ (H : ℕ → Option LinearForm). form_after (code_with i u) (at body k) H r) (sym (form_place k l))
 
   has_place : (k : ℕ) → k < length body → has body (at body k) ≡ true
   has_place k l = contains_has body (at body k) (Contains-get_or body k 0 l)
 
-  arriving : (k p r : ℕ) (g : LinearForm) → k < length body → p < length body → Comes nest.inner flow.instrs.items ps k (at body p) r g → Arrives N B F (at body k) (at body p) r g
+  arriving : (k p r : ℕ) (g : LinearForm) → k < length body → p < length body → Comes nest.inner flow ps k (at body p) r g → Arrives N B F (at body k) (at body p) r g
   arriving k p r g lk lp m = record { after = sym (past_is k r lk) ∙ m.after; carries = carries }
     where
       carries : Carries N (at body k) (at body p) g
       carries l (inl e) hu hv = absurd (yes_no _ (subst (λ (z : Level). has z.body (at body p) ≡ true) e (has_place p lp)) hv)
       carries l (inr i) hu hv = all_in (IsKept (point_at ps k).at (at body p) g) nest.inner l m.kept i (subst (λ u. Holds l u) (sym (at_place k lk)) hu) hv
 
-  coming : (k p r : ℕ) (g : LinearForm) → k < length body → Arrives N B F (at body k) (at body p) r g → Comes nest.inner flow.instrs.items ps k (at body p) r g
+  coming : (k p r : ℕ) (g : LinearForm) → k < length body → Arrives N B F (at body k) (at body p) r g → Comes nest.inner flow ps k (at body p) r g
   coming k p r g lk a =
       record {
         after = past_is k r lk ∙ a.after;
         kept = λ i d l. λ hu hv. a.carries (get_or nest.inner i d) (inr (listed_in nest.inner i (get_or nest.inner i d) l (sym (get_or_default nest.inner i d (get_or nest.inner i d) l)))) (subst (λ u. Holds (get_or nest.inner i d) u) (at_place k lk) hu) hv;
       }
 
-  met_iff : (p r : ℕ) (o : Option LinearForm) → p < length body → IsMet nest.inner flow.instrs.items ps (row_at R p) (at body p) r o → (g : LinearForm) → (o ≡ Some g) ↔ Meets N B F (at body p) r g
+  met_iff : (p r : ℕ) (o : Option LinearForm) → p < length body → IsMet nest.inner flow ps (row_at R p) (at body p) r o → (g : LinearForm) → (o ≡ Some g) ↔ Meets N B F (at body p) r g
   met_iff p r o lp m g = (λ e. forth ((m g).0 e), λ h. (m g).1 (back h))
     where
-      forth : All (λ k. Comes nest.inner flow.instrs.items ps k (at body p) r g) (row_at R p) → Meets N B F (at body p) r g
+      forth : All (λ k. Comes nest.inner flow ps k (at body p) r g) (row_at R p) → Meets N B F (at body p) r g
       forth a u w =
           let q = place_of_word body u w.edge.from in
           let cont = forward_sources G nest.root nest.inner body R src p q.0 q.1 lp (subst (λ z. IsForwardIn N body z (at body p)) (sym q.2) w) in
-          let k = subst (λ z. Comes nest.inner flow.instrs.items ps z (at body p) r g) cont.2 (a cont.0 q.0 cont.1) in
+          let k = subst (λ z. Comes nest.inner flow ps z (at body p) r g) cont.2 (a cont.0 q.0 cont.1) in
           subst (λ z. Arrives N B F z (at body p) r g) q.2 (arriving q.0 p r g q.1 lp k)
 
-      back : Meets N B F (at body p) r g → All (λ k. Comes nest.inner flow.instrs.items ps k (at body p) r g) (row_at R p)
+      back : Meets N B F (at body p) r g → All (λ k. Comes nest.inner flow ps k (at body p) r g) (row_at R p)
       back h i d l =
           let k = get_or (row_at R p) i d in
           let s = sources_forward G nest.root nest.inner body R src p k (i, l, get_or_default (row_at R p) i k d l) in
@@ -226,18 +228,18 @@ module _ (G : Graph) (ls : List Level) (nest : AreNest G ls) (c : Classes) (flow
   ordered : (p : ℕ) → p < length body → (j : ℕ) × (j < length flow.order.items) × (get_or flow.order.items j 0 ≡ p)
   ordered p l = let e = src.count in let q = f.order.every p (omega arith) in (q.0, q.1, get_or_default flow.order.items q.0 0 p q.1 ∙ q.2)
 
-  state : (p : ℕ) → p < length body → AreFormsAt B ls nest.inner nest.root c flow.instrs.items ps (row_at R p) (at body p) (point_at ps p).forms
+  state : (p : ℕ) → p < length body → AreFormsAt B ls nest.inner nest.root c flow ps (row_at R p) (at body p) (point_at ps p).forms
   state p l =
       let j = ordered p l in
-      let s = subst (λ q. IsFormPlace B ls nest.inner nest.root c R flow.instrs.items ps q) j.2 (right j.0 j.1) in
-      subst (λ v. AreFormsAt B ls nest.inner nest.root c flow.instrs.items ps (row_at R p) v (point_at ps p).forms) (at_place p l) s
+      let s = subst (λ q. IsFormPlace B ls nest.inner nest.root c flow ps q) j.2 (right j.0 j.1) in
+      subst (λ v. AreFormsAt B ls nest.inner nest.root c flow ps (row_at R p) v (point_at ps p).forms) (at_place p l) s
 
   beyond : (p r : ℕ) → p < length body → 48 ≤ r → F (at body p) r ≡ None
   beyond p r l m = ap (λ (H : ℕ → Option LinearForm). H r) (form_place p l) ∙ past_end (point_at ps p).forms r (let n = (state p l).count in omega arith)
 
   after_beyond : (k r : ℕ) → k < length body → 48 ≤ r → form_after B (at body k) (F (at body k)) r ≡ None
   after_beyond k r l m =
-      ap (λ b. if b then written_form (at body k) (B.instr (at body k)) None r (F (at body k)) else F (at body k) r) (no_write (at body k) r (B.instr (at body k)) m) ∙ beyond k r l m
+      ap (λ b. if b then written_form (at body k) (B.instr (at body k)) (C.uses (at body k)) r (F (at body k)) else F (at body k) r) (none_beyond (B.instr (at body k)) (C.uses (at body k)) r (few.uses (at body k)) m) ∙ beyond k r l m
 
   -- a word that an edge leads from to place p, earlier in the order
   record Source (p : ℕ) : Type 0 where
@@ -282,7 +284,7 @@ module _ (G : Graph) (ls : List Level) (nest : AreNest G ls) (c : Classes) (flow
           ∙ ap (λ (x : Option LinearForm). header_form nest.root.depth (roles_by B ls c nest.root r) x) o
       by false t =
           let m = high_of r 48 t in
-          beyond p r l m ∙ sym (header_none nest.root.depth (roles_by B ls c nest.root r)) ∙ ap (λ (x : Option LinearForm). header_form nest.root.depth (roles_by B ls c nest.root r) x) (sym (entry_beyond G r m))
+          beyond p r l m ∙ sym (header_none nest.root.depth (roles_by B ls c nest.root r)) ∙ ap (λ (x : Option LinearForm). header_form nest.root.depth (roles_by B ls c nest.root r) x) (sym (entry_beyond G C few r m))
 
   -- the sources of a place are right
   abbrev AreFreeBefore : ℕ → Type 0
@@ -311,17 +313,17 @@ module _ (G : Graph) (ls : List Level) (nest : AreNest G ls) (c : Classes) (flow
           let hl : Holds m l.header = subst (λ z. Holds m z) (sym q ∙ e) (nest.nest.bodies.header m (inr j)) in
           nest.nest.bodies.apart m l (inr j) (inr i) hm hl
 
-      low : r < 48 → IsHeaderForm B ls c l (IsMet nest.inner flow.instrs.items ps (row_at R p) (at body p) r) r (forms_in (point_at ps p).forms r) → IsEnteredAt (at body p) l r
+      low : r < 48 → IsHeaderForm B ls c l (IsMet nest.inner flow ps (row_at R p) (at body p) r) r (forms_in (point_at ps p).forms r) → IsEnteredAt (at body p) l r
       low lt h =
           let iff = met_iff p r h.outside lp h.met in
           (h.outside, ap (λ (H : ℕ → Option LinearForm). H r) (form_place p lp) ∙ h.is (inner_free p l lp ne i e free r h.outside iff), iff)
 
       by : (b : Bool) → nat_lt r 48 ≡ b → ((m : Level) × Contains nest.inner m × (at body p ≡ m.header)
-          × ((q : ℕ) → q < 48 → IsHeaderForm B ls c m (IsMet nest.inner flow.instrs.items ps (row_at R p) (at body p) q) q (forms_in (point_at ps p).forms q)))
+          × ((q : ℕ) → q < 48 → IsHeaderForm B ls c m (IsMet nest.inner flow ps (row_at R p) (at body p) q) q (forms_in (point_at ps p).forms q)))
           ⊎ (((m : Level) → Contains nest.inner m → at body p ≢ m.header)
-          × ((q : ℕ) → q < 48 → IsMet nest.inner flow.instrs.items ps (row_at R p) (at body p) q (forms_in (point_at ps p).forms q)))
+          × ((q : ℕ) → q < 48 → IsMet nest.inner flow ps (row_at R p) (at body p) q (forms_in (point_at ps p).forms q)))
           → IsEnteredAt (at body p) l r
-      by true t (inl a) = low (low_of r 48 t) (subst (λ (m : Level). IsHeaderForm B ls c m (IsMet nest.inner flow.instrs.items ps (row_at R p) (at body p) r) r (forms_in (point_at ps p).forms r)) (found a.0 a.1 a.2) (a.3 r (low_of r 48 t)))
+      by true t (inl a) = low (low_of r 48 t) (subst (λ (m : Level). IsHeaderForm B ls c m (IsMet nest.inner flow ps (row_at R p) (at body p) r) r (forms_in (point_at ps p).forms r)) (found a.0 a.1 a.2) (a.3 r (low_of r 48 t)))
       by true t (inr a) = absurd (a.0 l (contains_level nest.inner l i) e)
       by false t a =
           let m = high_of r 48 t in
@@ -332,9 +334,9 @@ module _ (G : Graph) (ls : List Level) (nest : AreNest G ls) (c : Classes) (flow
   plain_is p r g lp ne none = by (nat_lt r 48) refl ((state p lp).other ne)
     where
       by : (b : Bool) → nat_lt r 48 ≡ b → ((m : Level) × Contains nest.inner m × (at body p ≡ m.header)
-          × ((q : ℕ) → q < 48 → IsHeaderForm B ls c m (IsMet nest.inner flow.instrs.items ps (row_at R p) (at body p) q) q (forms_in (point_at ps p).forms q)))
+          × ((q : ℕ) → q < 48 → IsHeaderForm B ls c m (IsMet nest.inner flow ps (row_at R p) (at body p) q) q (forms_in (point_at ps p).forms q)))
           ⊎ (((m : Level) → Contains nest.inner m → at body p ≢ m.header)
-          × ((q : ℕ) → q < 48 → IsMet nest.inner flow.instrs.items ps (row_at R p) (at body p) q (forms_in (point_at ps p).forms q)))
+          × ((q : ℕ) → q < 48 → IsMet nest.inner flow ps (row_at R p) (at body p) q (forms_in (point_at ps p).forms q)))
           → (F (at body p) r ≡ Some g) ↔ Meets N B F (at body p) r g
       by b t (inl a) = absurd (none a.0 (in_level nest.inner a.0 a.1) a.2)
       by true t (inr a) = subst (λ (x : Option LinearForm). (x ≡ Some g) ↔ Meets N B F (at body p) r g) (sym (ap (λ (H : ℕ → Option LinearForm). H r) (form_place p lp))) (met_iff p r (forms_in (point_at ps p).forms r) lp (a.1 r (low_of r 48 t)) g)

@@ -1,38 +1,52 @@
 -- Inductions that are written with another form than their header's and the step.
-use Rattle.std.specs.Prelude.{ℕ, ◌≡◌, ◌≢◌, ◌<◌, ◌≤◌, true, List, Option, Some, None, ℤ}
+use Rattle.std.specs.Prelude.{ℕ, ◌≡◌, ◌≢◌, ◌<◌, ◌≤◌, ◌∷◌, true, List, length, Option, Some, None, ℤ, slice_index_or}
 use Rattle.std.specs.List.{Any}
+use Rattle.rv64_decode.specs.declared.instr.Instr.{Instr}
 use Rattle.linear_forms.specs.Forms.{LinearForm}
 use Rattle.linear_forms.specs.declared.location.Loc.{Loc}
-use Rattle.linear_forms.specs.declared.location.Loc.TheVariants.{Reg}
+use Rattle.linear_forms.specs.Locations.{number_of, IsLocation}
+use Rattle.loop_data.specs.declared.classes.Class.TheVariants.{Induction}
 use Rattle.loop_data.specs.declared.classes.Classes.{Classes}
 use Rattle.loop_data.specs.declared.equations.Point.{Point}
+use Rattle.loop_data.specs.declared.flow.Flow.{Flow}
 use Rattle.loop_data.specs.declared.shape.Level.{Level}
 use Rattle.loop_data.specs.Nests.{has}
-use Rattle.loop_data.specs.Independent.{Moves}
-use Rattle.loop_data.specs.LoopCode.{LoopCode, writes}
+use Rattle.loop_data.specs.Locations.{instr_writes}
 use Rattle.loop_data.specs.Equations.{plus_constant}
 use Rattle.loop_data.specs.FormRows.{form_after}
-use Rattle.loop_data.specs.Lookups.{form_at, roles_by}
+use Rattle.loop_data.specs.Lookups.{form_at, classes_of}
 use Rattle.register_equations.specs.Rows.{forms_in}
+use Rattle.register_equations.specs.States.{code_with, point_at}
 
--- the word of a point writes the location with another form than this and the step
-pub record IsOther (B : LoopCode) (r : ℕ) (form : LinearForm) (step : ℤ) (p : Point) : Type 0 where
-  pub does : writes B p.at r ≡ true
-  pub other : form_after B p.at (forms_in p.forms) r ≢ Some (plus_constant form step)
+-- the word of a point, where it is this instruction, which accesses this cell if any, writes the location with
+-- another form than this and the step
+pub record IsOther (i : Option Instr) (cell : Option ℕ) (r : ℕ) (form : LinearForm) (step : ℤ) (p : Point) : Type 0
+  where
+    pub does : instr_writes i cell r ≡ true
+    pub other : form_after (code_with i cell) p.at (forms_in p.forms) r ≢ Some (plus_constant form step)
+
+-- the word at a place does, and is in a body
+pub record IsOtherAt (flow : Flow) (body : List ℕ) (points : List Point) (r : ℕ) (form : LinearForm) (step : ℤ)
+    (k : ℕ) : Type 0 where
+  pub inside : has body (point_at points k).at ≡ true
+  pub written : IsOther (slice_index_or flow.instrs.items k None) (slice_index_or flow.uses.items k None) r form step
+      (point_at points k)
 
 -- the location is an induction of the loop that a word of it writes so
-pub record IsAstray (B : LoopCode) (levels : List Level) (classes : Classes) (points : List Point) (r : ℕ) (l : Level)
+pub record IsAstray (flow : Flow) (levels : List Level) (classes : Classes) (points : List Point) (r : ℕ) (l : Level)
     : Type 0 where
   pub step : ℤ
-  pub moves : roles_by B levels classes l r ≡ Moves step
+  pub moves : slice_index_or (classes_of levels (classes.root ∷ classes.inner) l) r None ≡ Some (Induction step)
   pub form : LinearForm
   pub header : form_at points l.header r ≡ Some form
-  pub written : Any (λ (p : Point). (has l.body p.at ≡ true) × IsOther B r form step p) points
+  pub place : ℕ
+  pub within : place < length points
+  pub other : IsOtherAt flow l.body points r form step place
 
--- the least register of which one of the loops has such an induction
-abbrev pub IsLeastAstray : LoopCode → List Level → Classes → List Point → Option Loc → Type 0
-IsLeastAstray B levels classes points None =
-    (r : ℕ) → 1 ≤ r → r < 32 → ¬ Any (IsAstray B levels classes points r) levels
-IsLeastAstray B levels classes points (Some loc) = (n : ℕ) × (loc ≡ Reg n) × (1 ≤ n) × (n < 32)
-    × Any (IsAstray B levels classes points n) levels
-    × ((r : ℕ) → 1 ≤ r → r < n → ¬ Any (IsAstray B levels classes points r) levels)
+-- the least location of which one of the loops has such an induction
+abbrev pub IsLeastAstray : Flow → List Level → Classes → List Point → Option Loc → Type 0
+IsLeastAstray flow levels classes points None =
+    (r : ℕ) → 1 ≤ r → r < 48 → ¬ Any (IsAstray flow levels classes points r) levels
+IsLeastAstray flow levels classes points (Some loc) =
+    IsLocation loc × Any (IsAstray flow levels classes points (number_of loc)) levels
+    × ((r : ℕ) → 1 ≤ r → r < number_of loc → ¬ Any (IsAstray flow levels classes points r) levels)

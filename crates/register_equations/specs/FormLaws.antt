@@ -12,15 +12,18 @@ use Rattle.loop_data.specs.Nests.{Nest, has, Among, nest_of, IsPass}
 use Rattle.loop_data.specs.LoopWords.{AreNest}
 use Rattle.loop_data.specs.Runs.{State, run, walk, goes_at}
 use Rattle.loop_data.specs.Turns.{turn}
-use Rattle.loop_data.specs.Locations.{no_cells}
+use Rattle.loop_data.specs.Locations.{CellMap, no_cells}
 use Rattle.loop_data.specs.LoopCode.{LoopCode, code_of, any_writes, IsUnwritten}
 use Rattle.loop_data.specs.Independent.{Role, Keeps, Moves}
 use Rattle.loop_data.specs.FormRows.{duty}
 use Rattle.loop_data.specs.Equations.{AreForms, IsConfirmed}
 use Rattle.loop_data.specs.Holds.{entry_of, times, HoldsAt, FormsHold}
-use Rattle.loop_data.specs.Lookups.{cell_map, form_at, HasNoCells}
+use Rattle.loop_data.specs.Lookups.{cell_map, form_at}
+use Rattle.loop_data.specs.Facts.{Fact}
+use Rattle.loop_data.specs.FactPass.{AreFacts}
+use Rattle.loop_data.specs.FoundCells.{AreFoundCells}
 use Rattle.loop_data.specs.Results.{AreClasses, AreEquations}
-use Rattle.loop_data.specs.Executing.{AreProgramWords, Executes, IsOf32Bits}
+use Rattle.loop_data.specs.Executing.{AreProgramWords, AreCellWords, Executes, LeavesCells, AreAtCells, IsOf32Bits}
 
 -- the forms are a solution of the equations of a nest, by roles that its loops give the locations
 pub record AreSolved (N : Nest) (B : LoopCode) (roles : Level → ℕ → Role) (at : ℕ → ℕ → Option LinearForm)
@@ -35,53 +38,70 @@ pub record AreSolved (N : Nest) (B : LoopCode) (roles : Level → ℕ → Role) 
   -- and each write of an induction is its header's form and the step
   pub confirmed : (l : Level) → Among N l → (r : ℕ) → IsConfirmed N B roles at l r
 
--- up to visit n a run executes the words of the nest, and before it each value that an instruction on words
--- of 32 bits owes is a number of 32 bits
+-- up to visit n a run executes the words of the nest, and before it no word writes to a cell that it does not use,
+-- and each value that an instruction on words of 32 bits owes is a number of 32 bits
 pub record MeetsDuties (N : Nest) (B : LoopCode) (at : ℕ → ℕ → Option LinearForm) (s : State) (n : ℕ) : Type 0 where
   pub executes : Executes N.root B s n
+  pub leaves : LeavesCells B.cells s n
   pub duties : (m : ℕ) (f : LinearForm) → m < n → duty B (walk s m) (at (walk s m)) ≡ Some f
       → IsOf32Bits (exact f (entry_of B.cells s) (times N s m))
 
--- then the forms hold at visit n
+-- then the forms hold at visit n, where the words that use a cell access its bytes
 abbrev pub FormLaw : Type 0
 FormLaw = (G : Graph) (levels : List Level) (nest : AreNest G levels) → AreProgramWords G →
     let N = nest_of G nest.root nest.inner in
-    let B = code_of G no_cells in
+    (C : CellMap) →
+    let B = code_of G C in
     (roles : Level → ℕ → Role) (at : ℕ → ℕ → Option LinearForm) (s : State) (n : ℕ) → AreSolved N B roles at
-    → MeetsDuties N B at s n → HoldsAt N B.cells at s n
+    → AreCellWords N.root B → AreAtCells C s n → MeetsDuties N B at s n → HoldsAt N C at s n
 
 -- and at each visit of a word of the nest in the first p turns, where that is so up to each of them
 abbrev pub TurnsLaw : Type 0
 TurnsLaw = (G : Graph) (levels : List Level) (nest : AreNest G levels) → AreProgramWords G →
     let N = nest_of G nest.root nest.inner in
-    let B = code_of G no_cells in
+    (C : CellMap) →
+    let B = code_of G C in
     (roles : Level → ℕ → Role) (at : ℕ → ℕ → Option LinearForm) (s : State) (p : ℕ) → AreSolved N B roles at
-    → ((n : ℕ) → turn N.root s n < p → goes_at (has N.root.body) (run s n).next ≡ true → MeetsDuties N B at s n)
-    → FormsHold N B.cells at s p
+    → AreCellWords N.root B
+    → ((n : ℕ) → turn N.root s n < p → goes_at (has N.root.body) (run s n).next ≡ true
+    → AreAtCells C s n × MeetsDuties N B at s n)
+    → FormsHold N C at s p
 
--- up to visit n a run executes the words of the nest, and before it the values of the duties that are listed
--- are numbers of 32 bits
+-- up to visit n a run executes the words of the nest, and before it no word writes to a cell that it does not use,
+-- and the values of the duties that are listed are numbers of 32 bits
 pub record MeetsListed (N : Nest) (B : LoopCode) (listed : List Duty) (s : State) (n : ℕ) : Type 0 where
   pub executes : Executes N.root B s n
+  pub leaves : LeavesCells B.cells s n
   pub met : (m : ℕ) (d : Duty) → m < n → Contains listed d → walk s m ≡ d.at
       → IsOf32Bits (exact d.form (entry_of B.cells s) (times N s m))
 
--- what the passes over a nest without cells give is true of a run: where the equations go by the classes of its
--- locations, and no induction stays unconfirmed, the forms hold at visit n
+-- the equations of a nest go by the classes of its locations, whose cells are found by the facts of the pass that
+-- knows none; and no induction stays unconfirmed
+pub record AreResults (G : Graph) (levels : List Level) (N : Nest) (cells : Cells) (c : Classes) (e : Equations)
+    : Type 0 where
+  pub facts : ℕ → ℕ → Option Fact
+  pub pass : AreFacts N (code_of G no_cells) N.root facts
+  pub found : AreFoundCells N (code_of G (cell_map cells)) facts
+  pub classes : AreClasses G levels (cell_map cells) c
+  pub equations : AreEquations G levels (cell_map cells) c e
+  pub confirmed : e.unconfirmed ≡ None
+
+-- what the passes over a nest give is true of a run: at visit n the forms hold, and before it each word that uses a
+-- cell accesses its bytes
 abbrev pub ResultLaw : Type 0
 ResultLaw = (G : Graph) (levels : List Level) (nest : AreNest G levels) → AreProgramWords G →
     let N = nest_of G nest.root nest.inner in
-    let B = code_of G no_cells in
-    (cells : Cells) (c : Classes) (e : Equations) (s : State) (n : ℕ) → HasNoCells cells
-    → AreClasses G levels (cell_map cells) c → AreEquations G levels (cell_map cells) c e → e.unconfirmed ≡ None
-    → MeetsListed N B e.duties s n → HoldsAt N B.cells (form_at e.points) s n
+    (cells : Cells) (c : Classes) (e : Equations) (s : State) (n : ℕ) → AreResults G levels N cells c e
+    → MeetsListed N (code_of G (cell_map cells)) e.duties s n
+    → HoldsAt N (cell_map cells) (form_at e.points) s n × AreAtCells (cell_map cells) s n
 
 -- and at each visit of a word of the nest in the first p turns, where that is so up to each of them
 abbrev pub ResultTurnsLaw : Type 0
 ResultTurnsLaw = (G : Graph) (levels : List Level) (nest : AreNest G levels) → AreProgramWords G →
     let N = nest_of G nest.root nest.inner in
-    let B = code_of G no_cells in
-    (cells : Cells) (c : Classes) (e : Equations) (s : State) (p : ℕ) → HasNoCells cells
-    → AreClasses G levels (cell_map cells) c → AreEquations G levels (cell_map cells) c e → e.unconfirmed ≡ None
-    → ((n : ℕ) → turn N.root s n < p → goes_at (has N.root.body) (run s n).next ≡ true → MeetsListed N B e.duties s n)
-    → FormsHold N B.cells (form_at e.points) s p
+    (cells : Cells) (c : Classes) (e : Equations) (s : State) (p : ℕ) → AreResults G levels N cells c e
+    → ((n : ℕ) → turn N.root s n < p → goes_at (has N.root.body) (run s n).next ≡ true
+    → MeetsListed N (code_of G (cell_map cells)) e.duties s n)
+    → FormsHold N (cell_map cells) (form_at e.points) s p
+    × ((n : ℕ) → turn N.root s n < p → goes_at (has N.root.body) (run s n).next ≡ true
+    → AreAtCells (cell_map cells) s n)

@@ -7,22 +7,23 @@ use Rattle.linear_forms.specs.Forms.{LinearForm, stride}
 use Rattle.loop_data.specs.declared.classes.Class.{Class}
 use Rattle.loop_data.specs.declared.classes.Classes.{Classes}
 use Rattle.loop_data.specs.declared.equations.Duty.{Duty}
+use Rattle.loop_data.specs.declared.flow.Flow.{Flow}
 use Rattle.loop_data.specs.declared.equations.Point.{Point}
 use Rattle.loop_data.specs.declared.shape.Level.{Level}
 use Rattle.loop_data.specs.declared.graph.Graph.{Graph}
 use Rattle.loop_data.specs.Nests.{Nest, has, Holds}
 use Rattle.loop_data.specs.LoopCode.{LoopCode, code_of}
-use Rattle.loop_data.specs.Locations.{no_cells}
-use Rattle.loop_data.specs.FormRows.{form_after, duty}
+use Rattle.loop_data.specs.Locations.{CellMap}
+use Rattle.loop_data.specs.FormRows.{form_after, duty_from}
 use Rattle.loop_data.specs.Equations.{entry_form, header_form, AreForms}
 use Rattle.loop_data.specs.Lookups.{classes_of, roles_by, form_at}
 use Rattle.loop_data.specs.Results.{IsNestOf, IsInnermost, IsAround}
-use Rattle.loop_data.specs.Flows.{row_at}
+use Rattle.loop_data.specs.Flows.{rows, row_at}
 use Rattle.register_equations.specs.Rows.{forms_in}
 
--- an instruction at every address, in a program without cells
-abbrev pub code_with : Option Instr → LoopCode
-code_with i = record { instr = λ u. i; cells = no_cells }
+-- an instruction at every address, which accesses this cell, if any
+abbrev pub code_with : Option Instr → Option ℕ → LoopCode
+code_with i cell = record { instr = λ u. i; cells = record { cells = []; uses = λ u. cell } }
 
 -- no location has a form
 abbrev pub no_forms : Point
@@ -32,24 +33,24 @@ abbrev pub point_at : List Point → ℕ → Point
 point_at points k = slice_index_or points k no_forms
 
 -- the form of a location after the word at a place
-abbrev pub past : List (Option Instr) → List Point → ℕ → ℕ → Option LinearForm
-past instrs points k r =
-    form_after (code_with (slice_index_or instrs k None)) (point_at points k).at (forms_in (point_at points k).forms) r
+abbrev pub past : Flow → List Point → ℕ → ℕ → Option LinearForm
+past flow points k r =
+    form_after (code_with (slice_index_or flow.instrs.items k None) (slice_index_or flow.uses.items k None))
+    (point_at points k).at (forms_in (point_at points k).forms) r
 
 -- the form has no stride of this loop, if the edge leaves it
 abbrev pub IsKept : ℕ → ℕ → LinearForm → Level → Type 0
 IsKept u v f l = Holds l u → has l.body v ≡ false → stride f l.depth ≡ pos 0
 
 -- the form stands at v after the word at a place
-pub record Comes (inner : List Level) (instrs : List (Option Instr)) (points : List Point) (k v r : ℕ)
-    (f : LinearForm) : Type 0 where
-  pub after : past instrs points k r ≡ Some f
+pub record Comes (inner : List Level) (flow : Flow) (points : List Point) (k v r : ℕ) (f : LinearForm) : Type 0 where
+  pub after : past flow points k r ≡ Some f
   pub kept : All (IsKept (point_at points k).at v f) inner
 
 -- the form, if any, that comes along all edges
-abbrev pub IsMet : List Level → List (Option Instr) → List Point → List ℕ → ℕ → ℕ → Option LinearForm → Type 0
-IsMet inner instrs points sources v r o =
-    (f : LinearForm) → (o ≡ Some f) ↔ All (λ k. Comes inner instrs points k v r f) sources
+abbrev pub IsMet : List Level → Flow → List Point → List ℕ → ℕ → ℕ → Option LinearForm → Type 0
+IsMet inner flow points sources v r o =
+    (f : LinearForm) → (o ≡ Some f) ↔ All (λ k. Comes inner flow points k v r f) sources
 
 -- no stride of this depth
 abbrev pub IsFree : ℕ → Option LinearForm → Type 0
@@ -69,42 +70,48 @@ IsClass levels c header r class =
 
 -- the forms are those of the word v at a place, which has these sources
 pub record AreFormsAt (B : LoopCode) (levels inner : List Level) (root : Level) (classes : Classes)
-    (instrs : List (Option Instr)) (points : List Point) (sources : List ℕ) (v : ℕ) (state : List
-    (Option LinearForm)) : Type 0 where
+    (flow : Flow) (points : List Point) (sources : List ℕ) (v : ℕ) (state : List (Option LinearForm)) : Type 0 where
   pub count : length state ≡ 48
   pub first : v ≡ root.header → (r : ℕ) → r < 48
       → IsHeaderForm B levels classes root (λ o. o ≡ entry_form B r) r (forms_in state r)
   pub other : v ≢ root.header
       → ((l : Level) × Contains inner l × (v ≡ l.header)
-      × ((r : ℕ) → r < 48 → IsHeaderForm B levels classes l (IsMet inner instrs points sources v r) r
+      × ((r : ℕ) → r < 48 → IsHeaderForm B levels classes l (IsMet inner flow points sources v r) r
       (forms_in state r)))
       ⊎ (((l : Level) → Contains inner l → v ≢ l.header)
-      × ((r : ℕ) → r < 48 → IsMet inner instrs points sources v r (forms_in state r)))
+      × ((r : ℕ) → r < 48 → IsMet inner flow points sources v r (forms_in state r)))
 
 -- the forms of a place are right
-abbrev pub IsFormPlace : LoopCode → List Level → List Level → Level → Classes → List (List ℕ)
-    → List (Option Instr) → List Point → ℕ → Type 0
-IsFormPlace B levels inner root classes rows instrs points p =
-    AreFormsAt B levels inner root classes instrs points (row_at rows p) (point_at points p).at
+abbrev pub IsFormPlace : LoopCode → List Level → List Level → Level → Classes → Flow → List Point → ℕ → Type 0
+IsFormPlace B levels inner root classes flow points p =
+    AreFormsAt B levels inner root classes flow points (row_at (rows flow.sources.items) p) (point_at points p).at
     (point_at points p).forms
 
 -- the new points are the old ones with other forms at place p, which are right
 pub record AreFormsSet (B : LoopCode) (levels inner : List Level) (root : Level) (classes : Classes)
-    (rows : List (List ℕ)) (instrs : List (Option Instr)) (p : ℕ) (old new : List Point) : Type 0 where
+    (flow : Flow) (p : ℕ) (old new : List Point) : Type 0 where
   pub state : List (Option LinearForm)
-  pub right : AreFormsAt B levels inner root classes instrs old (row_at rows p) (point_at old p).at state
+  pub right : AreFormsAt B levels inner root classes flow old (row_at (rows flow.sources.items) p) (point_at old p).at
+      state
   pub is : new ≡ slice_set old p (record { at = (point_at old p).at; forms = state })
 
 -- the points of the words of a nest, whose forms solve its equations
-pub record AreSolvedPoints (G : Graph) (levels : List Level) (classes : Classes) (points : List Point) : Type 0 where
+pub record AreSolvedPoints (G : Graph) (C : CellMap) (levels : List Level) (classes : Classes) (points : List Point)
+    : Type 0 where
   pub words : (N : Nest) → IsNestOf G levels N → map (λ (p : Point). p.at) points ≡ N.root.body
   pub forms : (N : Nest) → IsNestOf G levels N
-      → AreForms N (code_of G no_cells) (roles_by (code_of G no_cells) levels classes) (form_at points)
+      → AreForms N (code_of G C) (roles_by (code_of G C) levels classes) (form_at points)
 
--- a duty of the word of a point
-pub record IsDutyOf (B : LoopCode) (levels : List Level) (p : Point) (d : Duty) : Type 0 where
+-- the form whose values have to be numbers of 32 bits at the word at a place
+abbrev pub owed_at : Flow → List Point → ℕ → Option LinearForm
+owed_at flow points k =
+    duty_from (slice_index_or flow.instrs.items k None) (slice_index_or flow.uses.items k None)
+    (forms_in (point_at points k).forms)
+
+-- a duty of the word of a point, which owes this form
+pub record IsDutyOf (levels : List Level) (p : Point) (owed : Option LinearForm) (d : Duty) : Type 0 where
   pub at : d.at ≡ p.at
-  pub form : duty B p.at (forms_in p.forms) ≡ Some d.form
+  pub form : owed ≡ Some d.form
   pub innermost : IsInnermost levels p.at d.level
   pub around : (k : ℕ) → k < 3 → IsAround levels p.at k (slice_index d.around k)
 
@@ -112,15 +119,15 @@ abbrev pub duty_ats : List Duty → List ℕ
 duty_ats duties = map (λ (d : Duty). d.at) duties
 
 -- the duties are the old ones with that of a point, if it has one
-abbrev pub IsDutyAdded : LoopCode → List Level → Point → Option LinearForm → List Duty → List Duty → Type 0
-IsDutyAdded B levels p None old new = new ≡ old
-IsDutyAdded B levels p (Some f) old new = (d : Duty) × IsDutyOf B levels p d × (new ≡ old ++ d ∷ [])
+abbrev pub IsDutyAdded : List Level → Point → Option LinearForm → List Duty → List Duty → Type 0
+IsDutyAdded levels p None old new = new ≡ old
+IsDutyAdded levels p (Some f) old new = (d : Duty) × IsDutyOf levels p (Some f) d × (new ≡ old ++ d ∷ [])
 
 -- the duties of the first points, in order
-pub record AreDutiesTo (B : LoopCode) (levels : List Level) (points : List Point) (i : ℕ)
-    (duties : List Duty) : Type 0 where
-  pub ordered : IsStrictlyIncreasing (duty_ats duties)
-  pub each : (d : Duty) → Contains duties d → (k : ℕ) × (k < i) × IsDutyOf B levels (point_at points k) d
-  pub every : (k : ℕ) (f : LinearForm) → k < i
-      → duty B (point_at points k).at (forms_in (point_at points k).forms) ≡ Some f
-      → Contains (duty_ats duties) (point_at points k).at
+pub record AreDutiesTo (flow : Flow) (levels : List Level) (points : List Point) (i : ℕ) (duties : List Duty) : Type 0
+  where
+    pub ordered : IsStrictlyIncreasing (duty_ats duties)
+    pub each : (d : Duty) → Contains duties d
+        → (k : ℕ) × (k < i) × IsDutyOf levels (point_at points k) (owed_at flow points k) d
+    pub every : (k : ℕ) (f : LinearForm) → k < i → owed_at flow points k ≡ Some f
+        → Contains (duty_ats duties) (point_at points k).at

@@ -4,28 +4,24 @@ ghost use Rattle.std.specs.List.Sorted.{IsStrictlyIncreasing};
 ghost use Rattle.loop_data.specs.declared.equations.Point.{Point};
 ghost use Rattle.loop_data.specs.declared.shape.Level.{Level};
 ghost use Rattle.loop_data.specs.Nests.{Holds};
-ghost use Rattle.loop_data.specs.Locations.{no_cells};
-ghost use Rattle.loop_data.specs.LoopCode.{code_of};
-ghost use Rattle.loop_data.specs.FormRows.{duty};
-ghost use Rattle.loop_data.specs.Paths.{IsInOrder};
 ghost use Rattle.loop_data.specs.Results.{IsInnermost, IsAround};
-ghost use Rattle.register_equations.specs.Rows.{forms_in};
-ghost use Rattle.register_equations.specs.States.{IsDutyOf, IsDutyAdded, AreDutiesTo, point_at};
+ghost use Rattle.register_equations.specs.States.{owed_at, IsDutyOf, IsDutyAdded, AreDutiesTo, point_at};
 
 use crate::rows::duty_of;
 use linear_forms::Form;
-use loop_data::flow::instr_at;
 use loop_data::nesting::{innermost, places_in};
-use loop_data::{Duty, Graph, Level, Point};
+use loop_data::{Duty, Flow, Level, Point};
 use std::alloc::{AllocError, Global};
 
-/// The form whose values have to be numbers of 32 bits at the word of a point.
-fn duty_at(graph: &Graph, point: &Point) -> Option<Form>
-    requires { IsInOrder graph.now }
-    ensures { result ≡ duty (code_of graph.now no_cells) point.now.at (forms_in point.now.forms) }
+/// The form whose values have to be numbers of 32 bits at the word at a place.
+fn owed_at(flow: &Flow, points: &[Point], k: usize) -> Option<Form>
+    requires within { k < length points.now }
+    requires count { length flow.now.instrs.items ≡ length points.now }
+    requires uses { length flow.now.uses.items ≡ length points.now }
+    ensures { result ≡ owed_at flow.now points.now k }
 {
-    match instr_at(graph, point.at) {
-        Some(instr) => duty_of(instr, &point.forms),
+    match flow.instrs[k] {
+        Some(instr) => duty_of(instr, flow.uses[k], &points[k].forms),
         None => None,
     }
 }
@@ -51,22 +47,20 @@ fn duty_with(levels: &[Level], at: u64, form: Form) -> Duty
     }
 }
 
-/// Puts the duty of the word of a point at the end, if it has one.
+/// Puts the duty of the word of a point at the end, if it owes a form.
 fn add_duty(
-    graph: &Graph,
     levels: &[Level],
     point: &Point,
+    owed: Option<Form>,
     duties: &mut Vec<Duty>,
 ) -> Result<(), AllocError>
-    requires graph { IsInOrder graph.now }
     requires bodies { All (λ l. IsStrictlyIncreasing l.body) levels.now }
     requires few { length levels.now ≤ 4 }
     requires depths { (l : Level) → Contains levels.now l → l.depth < 3 }
     requires held { (l : Level) × Contains levels.now l × Holds l point.now.at }
-    ensures { OnOk result (IsDutyAdded (code_of graph.now no_cells) levels.now point.now (duty
-        (code_of graph.now no_cells) point.now.at (forms_in point.now.forms)) duties.old.items duties.new.items) }
+    ensures { OnOk result (IsDutyAdded levels.now point.now owed duties.old.items duties.new.items) }
 {
-    match duty_at(graph, point) {
+    match owed {
         Some(form) => {
             duties.push(duty_with(levels, point.at, form))?;
             Ok(())
@@ -78,23 +72,24 @@ fn add_duty(
 /// The duties of the words of points, in address order.
 pub fn duties_of(
     alloc: Global,
-    graph: &Graph,
     levels: &[Level],
+    flow: &Flow,
     points: &[Point],
 ) -> Result<Vec<Duty>, AllocError>
-    requires graph { IsInOrder graph.now }
     requires bodies { All (λ l. IsStrictlyIncreasing l.body) levels.now }
     requires few { length levels.now ≤ 4 }
     requires depths { (l : Level) → Contains levels.now l → l.depth < 3 }
     requires held { (k : ℕ) → k < length points.now
         → (l : Level) × Contains levels.now l × Holds l (point_at points.now k).at }
+    requires count { length flow.now.instrs.items ≡ length points.now }
+    requires uses { length flow.now.uses.items ≡ length points.now }
     requires ordered { IsStrictlyIncreasing (map (λ (p : Point). p.at) points.now) }
-    ensures { IfOk result (λ v. AreDutiesTo (code_of graph.now no_cells) levels.now points.now
-        (length points.now) v.items) }
+    ensures { IfOk result (λ v. AreDutiesTo flow.now levels.now points.now (length points.now) v.items) }
 {
     let mut duties = Vec::new(alloc);
     for i in 0..points.len() {
-        add_duty(graph, levels, &points[i], &mut duties)?;
+        let owed = owed_at(flow, points, i);
+        add_duty(levels, &points[i], owed, &mut duties)?;
     }
     Ok(duties)
 }

@@ -1,29 +1,25 @@
 ghost use Rattle.std.specs.Prelude.{◌≡◌, ◌<◌, ◌∷◌, ℤ, pos, Some, None, true, slice_index_or, []};
 ghost use Rattle.linear_forms.specs.Forms.{LinearForm, stride, is_small};
 ghost use Rattle.loop_data.specs.declared.classes.Class.TheVariants.{Induction};
-ghost use Rattle.loop_data.specs.Locations.{no_cells};
-ghost use Rattle.loop_data.specs.LoopCode.{code_of, any_writes};
 ghost use Rattle.loop_data.specs.Equations.{entry_form, with_step, header_form};
-ghost use Rattle.loop_data.specs.Lookups.{role_by};
-ghost use Rattle.loop_data.specs.Paths.{IsInOrder};
-ghost use Rattle.register_equations.specs.States.{code_with, IsFree, IsClass};
+ghost use Rattle.loop_data.specs.Lookups.{role_by, cell_map};
+ghost use Rattle.register_equations.specs.States.{IsFree, IsClass};
 ghost use Rattle.loop_data.specs.Results.{AreSmallSteps};
 
-use crate::meets::target;
 use linear_forms::{Form, Loc};
-use loop_data::flow::instr_at;
-use loop_data::{Class, Classes, Graph, Level};
-use rv64_decode::Instr;
+use loop_data::{Cells, Class, Classes, Level};
 
 /// The form of a location's entry value; x0 is the constant 0.
-pub fn entry(r: usize) -> Option<Form>
+pub fn entry(cells: &Cells, r: usize) -> Option<Form>
     requires { r < 48 }
-    ensures { result ≡ entry_form (code_with None) r }
+    ensures { result ≡ entry_form (record { instr = λ u. None; cells = cell_map cells.now }) r }
 {
     if r == 0 {
         Form::pure(0)
     } else if r < 32 {
         Form::moving(Loc::Reg(r as u8), 0)
+    } else if r - 32 < cells.list.len() {
+        Form::moving(Loc::Cell((r - 32) as u8), 0)
     } else {
         None
     }

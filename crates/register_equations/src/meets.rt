@@ -4,61 +4,36 @@ ghost use Rattle.std.specs.List.Sorted.{IsStrictlyIncreasing};
 ghost use Rattle.linear_forms.specs.Forms.{LinearForm, stride};
 ghost use Rattle.linear_forms.specs.Locations.{term_of, terms_of};
 ghost use Rattle.loop_data.specs.declared.shape.Level.{Level};
-ghost use Rattle.loop_data.specs.Locations.{word_writes, no_cells};
 ghost use Rattle.loop_data.specs.FormRows.{form_after};
 ghost use Rattle.loop_data.specs.Flows.{rows};
 ghost use Rattle.register_equations.specs.Rows.{forms_in, at_constant};
 ghost use Rattle.register_equations.specs.States.{code_with, past, point_at, IsKept, Comes, IsMet};
 
-use crate::rows::{copied, register};
+use crate::rows::{copied, register, stored};
 use linear_forms::{Form, Loc};
 use loop_data::flow::is_in;
+use loop_data::value_rows::instr_writes;
 use loop_data::{Flow, Level, Point};
 use rv64_decode::Instr;
 
-/// The register that an instruction writes, or 0.
-pub fn target(instr: &Instr) -> usize
-    ensures is { result ≡ Rattle.loop_data.specs.Locations.target instr.now }
-    ensures below { result < 32 }
-{
-    match *instr {
-        Instr::Alu { rd, .. }
-        | Instr::AluImm { rd, .. }
-        | Instr::Upper { rd, .. }
-        | Instr::Load { rd, .. }
-        | Instr::Jal { rd, .. }
-        | Instr::Jalr { rd, .. } => rd.number() as usize,
-        _ => 0,
-    }
-}
-
-/// Whether a word at this address writes a location, in a loop without cells.
-pub fn writes(at: u64, instr: &Option<Instr>, r: usize) -> bool
-    ensures { result ≡ word_writes no_cells at instr.now r }
-{
-    match instr {
-        Some(instr) => r != 0 && r < 32 && target(instr) == r,
-        None => false,
-    }
-}
-
-/// The form of a location after a word, out of the forms before it.
+/// The form of a location after a word that accesses this cell, if any, out of the forms before it.
 pub fn form_after(
     at: u64,
     instr: &Option<Instr>,
+    cell: Option<u8>,
     forms: &[Option<Form>; 48],
     r: usize,
 ) -> Option<Form>
     requires { r < 48 }
-    ensures { result ≡ form_after (code_with instr.now) at (forms_in forms.now) r }
+    ensures { result ≡ form_after (code_with instr.now cell) at (forms_in forms.now) r }
 {
-    if writes(at, instr, r) {
-        match instr {
-            Some(instr) => register(at, *instr, forms),
-            None => None,
-        }
-    } else {
-        copied(&forms[r])
+    if !instr_writes(instr, cell, r) {
+        return copied(&forms[r]);
+    }
+    match instr {
+        Some(instr) if r < 32 => register(at, *instr, cell, forms),
+        Some(instr) => stored(*instr, forms),
+        None => None,
     }
 }
 
@@ -115,19 +90,20 @@ fn is_form(found: &Option<Form>, form: &Form) -> bool
     }
 }
 
-/// Whether this is the form of a location after a word.
+/// Whether this is the form of a location after a word that accesses this cell, if any.
 fn is_after(
     at: u64,
     instr: &Option<Instr>,
+    cell: Option<u8>,
     forms: &[Option<Form>; 48],
     r: usize,
     form: &Form,
 ) -> bool
     requires { r < 48 }
-    ensures { IsTrue result ↔ (form_after (code_with instr.now) at (forms_in forms.now) r ≡ Some form.now) }
+    ensures { IsTrue result ↔ (form_after (code_with instr.now cell) at (forms_in forms.now) r ≡ Some form.now) }
 {
-    if writes(at, instr, r) {
-        is_form(&form_after(at, instr, forms, r), form)
+    if instr_writes(instr, cell, r) {
+        is_form(&form_after(at, instr, cell, forms, r), form)
     } else {
         is_form(&forms[r], form)
     }
@@ -176,11 +152,18 @@ fn comes(
     requires bodies { All (λ l. IsStrictlyIncreasing l.body) inner.now }
     requires within { k < length points.now }
     requires count { length flow.now.instrs.items ≡ length points.now }
+    requires uses { length flow.now.uses.items ≡ length points.now }
     requires location { r < 48 }
-    ensures { IsTrue result ↔ Comes inner.now flow.now.instrs.items points.now k v r form.now }
+    ensures { IsTrue result ↔ Comes inner.now flow.now points.now k v r form.now }
 {
-    is_after(points[k].at, &flow.instrs[k], &points[k].forms, r, form)
-        && carries(inner, points[k].at, v, form)
+    is_after(
+        points[k].at,
+        &flow.instrs[k],
+        flow.uses[k],
+        &points[k].forms,
+        r,
+        form,
+    ) && carries(inner, points[k].at, v, form)
 }
 
 /// The form that comes along the edge from a place to the word at v.
@@ -195,10 +178,17 @@ fn coming(
     requires bodies { All (λ l. IsStrictlyIncreasing l.body) inner.now }
     requires within { k < length points.now }
     requires count { length flow.now.instrs.items ≡ length points.now }
+    requires uses { length flow.now.uses.items ≡ length points.now }
     requires location { r < 48 }
-    ensures { (f : LinearForm) → (result ≡ Some f) ↔ Comes inner.now flow.now.instrs.items points.now k v r f }
+    ensures { (f : LinearForm) → (result ≡ Some f) ↔ Comes inner.now flow.now points.now k v r f }
 {
-    match form_after(points[k].at, &flow.instrs[k], &points[k].forms, r) {
+    match form_after(
+        points[k].at,
+        &flow.instrs[k],
+        flow.uses[k],
+        &points[k].forms,
+        r,
+    ) {
         Some(form) => {
             if carries(inner, points[k].at, v, &form) {
                 Some(form)
@@ -223,8 +213,9 @@ fn all_come(
     requires bodies { All (λ l. IsStrictlyIncreasing l.body) inner.now }
     requires within { All (λ k. k < length points.now) sources.now }
     requires count { length flow.now.instrs.items ≡ length points.now }
+    requires uses { length flow.now.uses.items ≡ length points.now }
     requires location { r < 48 }
-    ensures { IsTrue result ↔ All (λ k. Comes inner.now flow.now.instrs.items points.now k v r form.now) sources.now }
+    ensures { IsTrue result ↔ All (λ k. Comes inner.now flow.now points.now k v r form.now) sources.now }
 {
     sources
         .iter()
@@ -253,9 +244,10 @@ fn others_come(
     requires some { 1 ≤ length sources.now }
     requires within { All (λ k. k < length points.now) sources.now }
     requires count { length flow.now.instrs.items ≡ length points.now }
+    requires uses { length flow.now.uses.items ≡ length points.now }
     requires location { r < 48 }
-    requires first { Comes inner.now flow.now.instrs.items points.now (slice_index sources.now 0) v r form.now }
-    ensures { IsTrue result ↔ All (λ k. Comes inner.now flow.now.instrs.items points.now k v r form.now) sources.now }
+    requires first { Comes inner.now flow.now points.now (slice_index sources.now 0) v r form.now }
+    ensures { IsTrue result ↔ All (λ k. Comes inner.now flow.now points.now k v r form.now) sources.now }
 {
     all_come(inner, flow, points, rest(sources), v, r, form)
 }
@@ -273,8 +265,9 @@ pub fn met_form(
     requires some { 1 ≤ length sources.now }
     requires within { All (λ k. k < length points.now) sources.now }
     requires count { length flow.now.instrs.items ≡ length points.now }
+    requires uses { length flow.now.uses.items ≡ length points.now }
     requires location { r < 48 }
-    ensures { IsMet inner.now flow.now.instrs.items points.now sources.now v r result }
+    ensures { IsMet inner.now flow.now points.now sources.now v r result }
 {
     match coming(inner, flow, points, sources[0], v, r) {
         Some(form) => {

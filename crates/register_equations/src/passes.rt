@@ -5,23 +5,22 @@ ghost use Rattle.linear_forms.specs.Forms.{LinearForm, is_small};
 ghost use Rattle.loop_data.specs.declared.classes.Class.TheVariants.{Induction};
 ghost use Rattle.loop_data.specs.declared.equations.Point.{Point};
 ghost use Rattle.loop_data.specs.declared.shape.Level.{Level};
-ghost use Rattle.loop_data.specs.Locations.{word_writes, no_cells};
 ghost use Rattle.loop_data.specs.LoopCode.{code_of, any_writes};
 ghost use Rattle.loop_data.specs.LoopWords.{AreNest};
 ghost use Rattle.loop_data.specs.Equations.{entry_form, header_form};
 ghost use Rattle.loop_data.specs.Flows.{rows, row_at, IsFlow};
-ghost use Rattle.loop_data.specs.Lookups.{roles_by, role_by, classes_of};
+ghost use Rattle.loop_data.specs.Lookups.{roles_by, role_by, classes_of, cell_map, AreNumbered};
 ghost use Rattle.loop_data.specs.Paths.{IsInOrder};
 ghost use Rattle.register_equations.specs.Rows.{forms_in};
 ghost use Rattle.register_equations.specs.States.{code_with, IsFree, IsMet, IsHeaderForm, AreFormsAt, AreFormsSet, AreSolvedPoints, point_at};
 ghost use Rattle.loop_data.specs.Results.{AreSmallSteps};
 
 use crate::headers::{class_at, entry, header_form};
-use crate::meets::{met_form, target};
+use crate::meets::met_form;
 use linear_forms::Form;
-use loop_data::flow::{instr_at, row};
-use loop_data::{Classes, Flow, Graph, Level, Point, loop_flow};
-use rv64_decode::Instr;
+use loop_data::flow::row;
+use loop_data::value_places::mark_body;
+use loop_data::{Cells, Classes, Flow, Graph, Level, Point};
 use std::alloc::{AllocError, Global};
 
 /// No forms.
@@ -41,28 +40,15 @@ fn no_points(alloc: Global, body: &[u64]) -> Result<Vec<Point>, AllocError>
     Ok(all)
 }
 
-/// Sets the flag of the location that a word writes.
-fn mark_word(flags: &mut [bool; 48], at: u64, instr: &Option<Instr>)
-    ensures { (r : ℕ) → r < 48 → slice_index_or flags.new r false
-        ≡ (slice_index_or flags.old r false || word_writes no_cells at instr.now r) }
-{
-    if let Some(instr) = instr {
-        let r = target(instr);
-        if r != 0 {
-            flags[r] = true;
-        }
-    }
-}
-
 /// Which locations the words of a body write.
-fn written_flags(graph: &Graph, body: &[u64]) -> [bool; 48]
-    requires { IsInOrder graph.now }
-    ensures { (r : ℕ) → r < 48 → slice_index_or result r false ≡ any_writes (code_of graph.now no_cells) body.now r }
+fn written_flags(graph: &Graph, cells: &Cells, body: &[u64]) -> [bool; 48]
+    requires graph { IsInOrder graph.now }
+    requires cells { AreNumbered cells.now }
+    ensures { (r : ℕ) → r < 48
+        → slice_index_or result r false ≡ any_writes (code_of graph.now (cell_map cells.now)) body.now r }
 {
     let mut flags = [false; 48];
-    for u in body {
-        mark_word(&mut flags, *u, &instr_at(graph, *u));
-    }
+    mark_body(&mut flags, graph, cells, body);
     flags
 }
 
@@ -92,21 +78,23 @@ fn headed(
 /// The forms at the root's header.
 fn root_forms(
     graph: &Graph,
+    cells: &Cells,
     levels: &[Level],
     classes: &Classes,
     root: &Level,
 ) -> [Option<Form>; 48]
     requires graph { IsInOrder graph.now }
+    requires cells { AreNumbered cells.now }
     requires steps { AreSmallSteps classes.now }
     ensures count { length result ≡ 48 }
     ensures forms { (r : ℕ) → r < 48
-        → IsHeaderForm (code_of graph.now no_cells) levels.now classes.now root.now
-        (λ o. o ≡ entry_form (code_of graph.now no_cells) r) r (forms_in result r) }
+        → IsHeaderForm (code_of graph.now (cell_map cells.now)) levels.now classes.now root.now
+        (λ o. o ≡ entry_form (code_of graph.now (cell_map cells.now)) r) r (forms_in result r) }
 {
-    let written = written_flags(graph, root.body.as_slice());
+    let written = written_flags(graph, cells, root.body.as_slice());
     let mut forms = no_forms();
     for r in 0..48usize {
-        forms[r] = headed(levels, classes, root, written[r], r, entry(r));
+        forms[r] = headed(levels, classes, root, written[r], r, entry(cells, r));
     }
     forms
 }
@@ -114,6 +102,7 @@ fn root_forms(
 /// The forms at the header of an inner loop, out of those at its sources.
 fn inner_forms(
     graph: &Graph,
+    cells: &Cells,
     levels: &[Level],
     classes: &Classes,
     inner: &[Level],
@@ -124,17 +113,19 @@ fn inner_forms(
     v: u64,
 ) -> [Option<Form>; 48]
     requires graph { IsInOrder graph.now }
+    requires cells { AreNumbered cells.now }
     requires steps { AreSmallSteps classes.now }
     requires bodies { All (λ l. IsStrictlyIncreasing l.body) inner.now }
     requires some { 1 ≤ length sources.now }
     requires within { All (λ k. k < length points.now) sources.now }
     requires count { length flow.now.instrs.items ≡ length points.now }
+    requires uses { length flow.now.uses.items ≡ length points.now }
     ensures count { length result ≡ 48 }
     ensures forms { (r : ℕ) → r < 48
-        → IsHeaderForm (code_of graph.now no_cells) levels.now classes.now level.now
-        (IsMet inner.now flow.now.instrs.items points.now sources.now v r) r (forms_in result r) }
+        → IsHeaderForm (code_of graph.now (cell_map cells.now)) levels.now classes.now level.now
+        (IsMet inner.now flow.now points.now sources.now v r) r (forms_in result r) }
 {
-    let written = written_flags(graph, level.body.as_slice());
+    let written = written_flags(graph, cells, level.body.as_slice());
     let mut forms = no_forms();
     for r in 0..48usize {
         let outside = met_form(inner, flow, points, sources, v, r);
@@ -155,9 +146,10 @@ fn met_forms(
     requires some { 1 ≤ length sources.now }
     requires within { All (λ k. k < length points.now) sources.now }
     requires count { length flow.now.instrs.items ≡ length points.now }
+    requires uses { length flow.now.uses.items ≡ length points.now }
     ensures count { length result ≡ 48 }
     ensures forms { (r : ℕ) → r < 48
-        → IsMet inner.now flow.now.instrs.items points.now sources.now v r (forms_in result r) }
+        → IsMet inner.now flow.now points.now sources.now v r (forms_in result r) }
 {
     let mut forms = no_forms();
     for r in 0..48usize {
@@ -182,6 +174,7 @@ fn level_at<'a>(inner: &'a [Level], v: u64) -> Option<&'a Level>
 /// The forms at the word at a place, out of those at its sources.
 fn place_forms(
     graph: &Graph,
+    cells: &Cells,
     levels: &[Level],
     classes: &Classes,
     inner: &[Level],
@@ -191,24 +184,26 @@ fn place_forms(
     p: usize,
 ) -> [Option<Form>; 48]
     requires graph { IsInOrder graph.now }
+    requires cells { AreNumbered cells.now }
     requires steps { AreSmallSteps classes.now }
     requires bodies { All (λ l. IsStrictlyIncreasing l.body) inner.now }
     requires within { p < length points.now }
     requires count { length flow.now.instrs.items ≡ length points.now }
+    requires uses { length flow.now.uses.items ≡ length points.now }
     requires rows { length (rows flow.now.sources.items) ≡ length points.now }
     requires sources { All (λ k. k < length points.now) (row_at (rows flow.now.sources.items) p) }
     requires some { (point_at points.now p).at ≢ root.now.header → 1 ≤ length (row_at (rows flow.now.sources.items) p) }
-    ensures { AreFormsAt (code_of graph.now no_cells) levels.now inner.now root.now classes.now
-        flow.now.instrs.items points.now (row_at (rows flow.now.sources.items) p) (point_at points.now p).at result }
+    ensures { AreFormsAt (code_of graph.now (cell_map cells.now)) levels.now inner.now root.now classes.now
+        flow.now points.now (row_at (rows flow.now.sources.items) p) (point_at points.now p).at result }
 {
     let v = points[p].at;
     if v == root.header {
-        return root_forms(graph, levels, classes, root);
+        return root_forms(graph, cells, levels, classes, root);
     }
     let sources = row(flow.sources.as_slice(), p);
     match level_at(inner, v) {
         Some(level) => inner_forms(
-            graph, levels, classes, inner, level, flow, points, sources, v,
+            graph, cells, levels, classes, inner, level, flow, points, sources, v,
         ),
         None => met_forms(inner, flow, points, sources, v),
     }
@@ -217,6 +212,7 @@ fn place_forms(
 /// Sets the forms at the word at a place.
 fn set_place(
     graph: &Graph,
+    cells: &Cells,
     levels: &[Level],
     classes: &Classes,
     inner: &[Level],
@@ -226,19 +222,22 @@ fn set_place(
     p: usize,
 )
     requires graph { IsInOrder graph.now }
+    requires cells { AreNumbered cells.now }
     requires steps { AreSmallSteps classes.now }
     requires bodies { All (λ l. IsStrictlyIncreasing l.body) inner.now }
     requires within { p < length points.old.items }
     requires count { length flow.now.instrs.items ≡ length points.old.items }
+    requires uses { length flow.now.uses.items ≡ length points.old.items }
     requires rows { length (rows flow.now.sources.items) ≡ length points.old.items }
     requires sources { All (λ k. k < length points.old.items) (row_at (rows flow.now.sources.items) p) }
     requires some { (point_at points.old.items p).at ≢ root.now.header
         → 1 ≤ length (row_at (rows flow.now.sources.items) p) }
-    ensures { AreFormsSet (code_of graph.now no_cells) levels.now inner.now root.now classes.now
-        (rows flow.now.sources.items) flow.now.instrs.items p points.old.items points.new.items }
+    ensures { AreFormsSet (code_of graph.now (cell_map cells.now)) levels.now inner.now root.now classes.now
+        flow.now p points.old.items points.new.items }
 {
     let forms = place_forms(
         graph,
+        cells,
         levels,
         classes,
         inner,
@@ -261,6 +260,7 @@ fn rest(levels: &[Level]) -> &[Level]
 /// Sets the forms at each word, in the flow's order.
 fn set_places(
     graph: &Graph,
+    cells: &Cells,
     levels: &[Level],
     classes: &Classes,
     inner: &[Level],
@@ -270,43 +270,51 @@ fn set_places(
     points: &mut Vec<Point>,
 )
     requires graph { IsInOrder graph.now }
+    requires cells { AreNumbered cells.now }
     requires nest { AreNest graph.now levels.now }
     requires steps { AreSmallSteps classes.now }
     requires split { levels.now ≡ root.now ∷ inner.now }
     requires bodies { All (λ l. IsStrictlyIncreasing l.body) inner.now }
-    requires flow { IsFlow graph.now levels.now root.now.body flow.now }
+    requires flow { IsFlow graph.now (cell_map cells.now) levels.now root.now.body flow.now }
     requires order { order.now ≡ flow.now.order.items }
     requires words { map (λ (p : Point). p.at) points.old.items ≡ root.now.body }
-    ensures { AreSolvedPoints graph.now levels.now classes.now points.new.items }
+    ensures { AreSolvedPoints graph.now (cell_map cells.now) levels.now classes.now points.new.items }
 {
     for i in 0..order.len() {
-        set_place(graph, levels, classes, inner, root, flow, points, order[i]);
+        set_place(
+            graph, cells, levels, classes, inner, root, flow, points, order[i],
+        );
     }
 }
 
-/// The forms at each word of a nest, in address order.
+/// The forms at each word of a nest, whose root has this flow, in address order.
 pub fn solved_points(
     alloc: Global,
     graph: &Graph,
+    cells: &Cells,
     levels: &[Level],
     classes: &Classes,
+    flow: &Flow,
 ) -> Result<Vec<Point>, AllocError>
     requires graph { IsInOrder graph.now }
+    requires cells { AreNumbered cells.now }
     requires nest { AreNest graph.now levels.now }
     requires steps { AreSmallSteps classes.now }
-    ensures { IfOk result (λ v. AreSolvedPoints graph.now levels.now classes.now v.items) }
+    requires flow { (l : Level) → slice_index_or levels.now 0 l ≡ l
+        → IsFlow graph.now (cell_map cells.now) levels.now l.body flow.now }
+    ensures { IfOk result (λ v. AreSolvedPoints graph.now (cell_map cells.now) levels.now classes.now v.items) }
 {
-    let flow = loop_flow(alloc, graph, levels, 0)?;
     let root = &levels[0];
     let mut points = no_points(alloc, root.body.as_slice())?;
     let order = flow.order.as_slice();
     set_places(
         graph,
+        cells,
         levels,
         classes,
         rest(levels),
         root,
-        &flow,
+        flow,
         order,
         &mut points,
     );

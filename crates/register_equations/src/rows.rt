@@ -2,11 +2,11 @@ ghost use Rattle.std.specs.Prelude.{ℕ, ◌≡◌, ◌≤◌, ◌^◌, ◌*ℤ�
 ghost use Rattle.rv64_decode.specs.Row.{signed32};
 ghost use Rattle.linear_forms.specs.Forms.{LinearForm, limited, sum_of, difference, multiple, pure, word_of};
 ghost use Rattle.loop_data.specs.Facts.{short_of, signed_of};
-ghost use Rattle.loop_data.specs.FormRows.{form_read, form_sum, form_difference, form_multiple, form_shifted, form_product, is_pure, is_empty, is_factor, form_limited, form_short, form_owed, alu_form, imm_form, upper_form, alu_duty, imm_duty, register_form, duty_by};
+ghost use Rattle.loop_data.specs.FormRows.{form_read, form_sum, form_difference, form_multiple, form_shifted, form_product, is_pure, is_empty, is_factor, form_limited, form_short, form_owed, alu_form, imm_form, upper_form, cell_form, store_form, stored_form, alu_duty, imm_duty, store_duty, register_form, duty_by};
 ghost use Rattle.register_equations.specs.Rows.{forms_in, floating, at_constant, multiple_by, IsShortResult, IsFactor};
 
 use linear_forms::{Form, Terms};
-use rv64_decode::{AluOp, ImmOp, Instr, Reg, UpperOp};
+use rv64_decode::{AluOp, ImmOp, Instr, Reg, StoreOp, UpperOp};
 
 /// What an instruction on words of 32 bits makes of a form.
 #[derive(Drop)]
@@ -282,6 +282,16 @@ fn short_shifted(f: &Option<Form>, amount: i32) -> Short
     }
 }
 
+/// A form on words of 32 bits.
+fn short_form(f: &Option<Form>) -> Short
+    ensures { IsShortResult result f.now }
+{
+    match f {
+        Some(f) => shortened(with_constant(f.copied(), 0), f.constant),
+        None => Short::Other(None),
+    }
+}
+
 /// An immediate as a form.
 fn immediate(imm: i32) -> Option<Form>
     ensures { result ≡ Some (pure imm) }
@@ -354,22 +364,65 @@ fn upper(op: UpperOp, at: u64, imm: i32) -> Option<Form>
     }
 }
 
-/// The form that an instruction at this address writes to its register, in a loop without cells.
-pub fn register(at: u64, instr: Instr, forms: &[Option<Form>; 48]) -> Option<Form>
-    ensures { result ≡ register_form at instr None (forms_in forms.now) }
+/// The form of a cell, if there is one.
+fn cell_form(forms: &[Option<Form>; 48], cell: Option<u8>) -> Option<Form>
+    ensures { result ≡ cell_form cell (forms_in forms.now) }
+{
+    match cell {
+        Some(k) if k < 16 => copied(&forms[32 + k as usize]),
+        _ => None,
+    }
+}
+
+/// The form that an instruction at this address, which accesses this cell, if any, writes to its register. A load
+/// gives the form of the cell.
+pub fn register(at: u64, instr: Instr, cell: Option<u8>, forms: &[Option<Form>; 48]) -> Option<Form>
+    ensures { result ≡ register_form at instr cell (forms_in forms.now) }
 {
     match instr {
         Instr::Alu { op, rs1, rs2, .. } => alu(op, &read(forms, rs1), &read(forms, rs2)),
         Instr::AluImm { op, rs1, imm, .. } => alu_imm(op, &read(forms, rs1), imm),
         Instr::Upper { op, imm, .. } => upper(op, at, imm),
+        Instr::Load { .. } => cell_form(forms, cell),
         _ => None,
     }
 }
 
-/// The form that an instruction writes where its values have to be numbers of 32 bits, in a loop without
-/// cells.
-pub fn duty_of(instr: Instr, forms: &[Option<Form>; 48]) -> Option<Form>
-    ensures { result ≡ duty_by instr None (forms_in forms.now) }
+/// The form that a store leaves in its cell of the form of what it stores: in a cell of 4 bytes a constant is
+/// sign-extended.
+fn store(op: StoreOp, f: Option<Form>) -> Option<Form>
+    ensures { result ≡ store_form op f }
+{
+    match op {
+        StoreOp::Sw => written(short_form(&f)),
+        _ => f,
+    }
+}
+
+/// The form that a store leaves in its cell, where its values have to be numbers of 32 bits.
+fn store_owed(op: StoreOp, f: &Option<Form>) -> Option<Form>
+    ensures { result ≡ store_duty op f.now }
+{
+    match op {
+        StoreOp::Sw => owed(short_form(f)),
+        _ => None,
+    }
+}
+
+/// The form that an instruction writes to the cell that it accesses.
+pub fn stored(instr: Instr, forms: &[Option<Form>; 48]) -> Option<Form>
+    ensures { result ≡ stored_form instr (forms_in forms.now) }
+{
+    match instr {
+        Instr::Store { op, rs2, .. } => store(op, read(forms, rs2)),
+        _ => None,
+    }
+}
+
+/// The form that an instruction, which accesses this cell, if any, writes where its values have to be numbers of
+/// 32 bits.
+pub fn duty_of(instr: Instr, cell: Option<u8>, forms: &[Option<Form>; 48]) -> Option<Form>
+    ensures { result ≡ duty_by instr cell (forms_in forms.now) }
 {
     match instr {
         Instr::Alu { op, rd, rs1, rs2 } => {
@@ -386,6 +439,10 @@ pub fn duty_of(instr: Instr, forms: &[Option<Form>; 48]) -> Option<Form>
                 alu_imm_owed(op, &read(forms, rs1), imm)
             }
         }
+        Instr::Store { op, rs2, .. } => match cell {
+            Some(_) => store_owed(op, &read(forms, rs2)),
+            None => None,
+        },
         _ => None,
     }
 }

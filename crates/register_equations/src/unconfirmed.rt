@@ -1,22 +1,21 @@
 ghost use Rattle.std.specs.Prelude.{ℕ, ◌≡◌, ◌<◌, ◌≤◌, ◌↔◌, length, true, Some, IsTrue, false};
-ghost use Rattle.loop_data.specs.Nests.{has};
 ghost use Rattle.std.specs.List.{All, Any};
 ghost use Rattle.std.specs.List.Sorted.{IsStrictlyIncreasing};
 ghost use Rattle.linear_forms.specs.Forms.{is_small};
-ghost use Rattle.loop_data.specs.Locations.{no_cells};
-ghost use Rattle.loop_data.specs.LoopCode.{code_of};
+ghost use Rattle.linear_forms.specs.Locations.{number_of, IsLocation};
 ghost use Rattle.loop_data.specs.Equations.{plus_constant};
 ghost use Rattle.loop_data.specs.Lookups.{form_at};
-ghost use Rattle.loop_data.specs.Paths.{IsInOrder};
 ghost use Rattle.loop_data.specs.Results.{AreSmallSteps};
-ghost use Rattle.register_equations.specs.Astray.{IsOther, IsAstray, IsLeastAstray};
+ghost use Rattle.register_equations.specs.Astray.{IsOther, IsOtherAt, IsAstray, IsLeastAstray};
 
 use crate::headers::class_at;
-use crate::meets::{form_after, is_at, writes};
+use crate::meets::{form_after, is_at};
 use crate::rows::copied;
 use linear_forms::{Form, Loc};
-use loop_data::flow::{instr_at, is_in};
-use loop_data::{Class, Classes, Graph, Level, Point};
+use loop_data::flow::is_in;
+use loop_data::value_rows::instr_writes;
+use loop_data::{Class, Classes, Flow, Level, Point};
+use rv64_decode::Instr;
 
 /// Whether this is a form and a number more.
 fn is_plus(found: &Option<Form>, form: &Form, step: i64) -> bool
@@ -29,56 +28,69 @@ fn is_plus(found: &Option<Form>, form: &Form, step: i64) -> bool
     }
 }
 
-/// Whether the word of a point writes a location with another form than this and a step.
-fn is_other(graph: &Graph, point: &Point, r: usize, form: &Form, step: i64) -> bool
-    requires graph { IsInOrder graph.now }
-    requires location { r < 48 }
-    requires step { is_small step ≡ true }
-    ensures { IsTrue result ↔ IsOther (code_of graph.now no_cells) r form.now step point.now }
-{
-    let instr = instr_at(graph, point.at);
-    writes(point.at, &instr, r)
-        && !is_plus(&form_after(point.at, &instr, &point.forms, r), form, step)
-}
-
-/// Whether the word of a point does, and is in a loop.
-fn is_other_in(
-    graph: &Graph,
-    level: &Level,
+/// Whether the word of a point, which is this instruction and accesses this cell, if any, writes a location with
+/// another form than this and a step.
+fn is_other(
+    instr: &Option<Instr>,
+    cell: Option<u8>,
     point: &Point,
     r: usize,
     form: &Form,
     step: i64,
 ) -> bool
-    requires graph { IsInOrder graph.now }
-    requires body { IsStrictlyIncreasing level.now.body }
     requires location { r < 48 }
     requires step { is_small step ≡ true }
-    ensures { IsTrue result ↔ ((has level.now.body point.now.at ≡ true)
-        × IsOther (code_of graph.now no_cells) r form.now step point.now) }
+    ensures { IsTrue result ↔ IsOther instr.now cell r form.now step point.now }
 {
-    is_in(level.body.as_slice(), point.at) && is_other(graph, point, r, form, step)
+    instr_writes(instr, cell, r)
+        && !is_plus(
+            &form_after(point.at, instr, cell, &point.forms, r),
+            form,
+            step,
+        )
 }
 
-/// Whether a word of a loop does.
-fn has_other(
-    graph: &Graph,
+/// Whether the word at a place does, and is in a loop.
+fn is_other_at(
+    flow: &Flow,
     level: &Level,
     points: &[Point],
+    k: usize,
     r: usize,
     form: &Form,
     step: i64,
 ) -> bool
-    requires graph { IsInOrder graph.now }
     requires body { IsStrictlyIncreasing level.now.body }
+    requires within { k < length points.now }
+    requires count { length flow.now.instrs.items ≡ length points.now }
+    requires uses { length flow.now.uses.items ≡ length points.now }
     requires location { r < 48 }
     requires step { is_small step ≡ true }
-    ensures { IsTrue result ↔ Any (λ p. (has level.now.body p.at ≡ true)
-        × IsOther (code_of graph.now no_cells) r form.now step p) points.now }
+    ensures { IsTrue result ↔ IsOtherAt flow.now level.now.body points.now r form.now step k }
 {
-    points
-        .iter()
-        .any(|p| is_other_in(graph, level, p, r, form, step))
+    let point = &points[k];
+    is_in(level.body.as_slice(), point.at)
+        && is_other(&flow.instrs[k], flow.uses[k], point, r, form, step)
+}
+
+/// Whether a word of a loop does.
+fn has_other(flow: &Flow, level: &Level, points: &[Point], r: usize, form: &Form, step: i64) -> bool
+    requires body { IsStrictlyIncreasing level.now.body }
+    requires count { length flow.now.instrs.items ≡ length points.now }
+    requires uses { length flow.now.uses.items ≡ length points.now }
+    requires location { r < 48 }
+    requires step { is_small step ≡ true }
+    ensures yes { result ≡ true → (k : ℕ) × (k < length points.now)
+        × IsOtherAt flow.now level.now.body points.now r form.now step k }
+    ensures no { result ≡ false → (k : ℕ) → k < length points.now
+        → ¬ IsOtherAt flow.now level.now.body points.now r form.now step k }
+{
+    for k in 0..points.len() {
+        if is_other_at(flow, level, points, k, r, form, step) {
+            return true;
+        }
+    }
+    false
 }
 
 /// The form of a location at an address.
@@ -96,24 +108,24 @@ fn form_of(points: &[Point], at: u64, r: usize) -> Option<Form>
 
 /// Whether a loop has an induction that it writes with another form than its header's and the step.
 fn is_astray(
-    graph: &Graph,
     levels: &[Level],
     classes: &Classes,
+    flow: &Flow,
     points: &[Point],
     level: &Level,
     r: usize,
 ) -> bool
-    requires graph { IsInOrder graph.now }
+    requires count { length flow.now.instrs.items ≡ length points.now }
+    requires uses { length flow.now.uses.items ≡ length points.now }
     requires steps { AreSmallSteps classes.now }
     requires body { IsStrictlyIncreasing level.now.body }
     requires location { r < 48 }
-    ensures yes { result ≡ true → IsAstray (code_of graph.now no_cells) levels.now classes.now points.now r level.now }
-    ensures no { result ≡ false → ¬ IsAstray
-        (code_of graph.now no_cells) levels.now classes.now points.now r level.now }
+    ensures yes { result ≡ true → IsAstray flow.now levels.now classes.now points.now r level.now }
+    ensures no { result ≡ false → ¬ IsAstray flow.now levels.now classes.now points.now r level.now }
 {
     match class_at(levels, classes, level.header, r) {
         Some(Class::Induction(step)) => match form_of(points, level.header, r) {
-            Some(form) => has_other(graph, level, points, r, &form, step),
+            Some(form) => has_other(flow, level, points, r, &form, step),
             None => false,
         },
         _ => false,
@@ -121,40 +133,49 @@ fn is_astray(
 }
 
 /// Whether one of the loops has.
-fn some_astray(
-    graph: &Graph,
-    levels: &[Level],
-    classes: &Classes,
-    points: &[Point],
-    r: usize,
-) -> bool
-    requires graph { IsInOrder graph.now }
+fn some_astray(levels: &[Level], classes: &Classes, flow: &Flow, points: &[Point], r: usize) -> bool
+    requires count { length flow.now.instrs.items ≡ length points.now }
+    requires uses { length flow.now.uses.items ≡ length points.now }
     requires steps { AreSmallSteps classes.now }
     requires bodies { All (λ l. IsStrictlyIncreasing l.body) levels.now }
     requires location { r < 48 }
-    ensures { IsTrue result ↔ Any (IsAstray
-        (code_of graph.now no_cells) levels.now classes.now points.now r) levels.now }
+    ensures { IsTrue result ↔ Any (IsAstray flow.now levels.now classes.now points.now r) levels.now }
 {
     levels
         .iter()
-        .any(|l| is_astray(graph, levels, classes, points, l, r))
+        .any(|l| is_astray(levels, classes, flow, points, l, r))
 }
 
-/// The least register of which one of the loops has such an induction.
+/// The location of a number.
+fn location(r: usize) -> Loc
+    requires from { 1 ≤ r }
+    requires below { r < 48 }
+    ensures is { IsLocation result }
+    ensures number { number_of result ≡ r }
+{
+    if r < 32 {
+        Loc::Reg(r as u8)
+    } else {
+        Loc::Cell((r - 32) as u8)
+    }
+}
+
+/// The least location of which one of the loops has such an induction.
 pub fn unconfirmed(
-    graph: &Graph,
     levels: &[Level],
     classes: &Classes,
+    flow: &Flow,
     points: &[Point],
 ) -> Option<Loc>
-    requires graph { IsInOrder graph.now }
+    requires count { length flow.now.instrs.items ≡ length points.now }
+    requires uses { length flow.now.uses.items ≡ length points.now }
     requires steps { AreSmallSteps classes.now }
     requires bodies { All (λ l. IsStrictlyIncreasing l.body) levels.now }
-    ensures { IsLeastAstray (code_of graph.now no_cells) levels.now classes.now points.now result }
+    ensures { IsLeastAstray flow.now levels.now classes.now points.now result }
 {
-    for r in 1..32usize {
-        if some_astray(graph, levels, classes, points, r) {
-            return Some(Loc::Reg(r as u8));
+    for r in 1..48usize {
+        if some_astray(levels, classes, flow, points, r) {
+            return Some(location(r));
         }
     }
     None

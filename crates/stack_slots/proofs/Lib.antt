@@ -3,3 +3,4 @@ pub mod OneCell
 pub mod FirstUses
 pub mod UseLists
 pub mod Points
+pub mod FoundCells

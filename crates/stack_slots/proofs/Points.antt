@@ -16,12 +16,11 @@ use Rattle.loop_data.specs.FactPass.{AreFacts}
 use Rattle.loop_data.specs.Locations.{CellMap, no_cells}
 use Rattle.loop_data.specs.LoopCode.{LoopCode, code_of}
 use Rattle.loop_data.specs.LoopWords.{AreNest}
-use Rattle.loop_data.specs.Lookups.{cell_map, fact_in, fact_at, HasNoCells}
+use Rattle.loop_data.specs.Lookups.{cell_map, fact_in, fact_at}
 use Rattle.loop_data.specs.Nests.{Nest, Holds, nest_of}
 use Rattle.loop_data.specs.Results.{IsNestOf, AreFactsOf}
 use Rattle.loop_data.proofs.FactUnique.{one_pass}
 use Rattle.loop_data.proofs.Steps.{contains_has}
-use Rattle.loop_data.proofs.ValuePlaces.{cells_none}
 use Rattle.loop_data.proofs.Tests.{is_eq, is_ne}
 use Rattle.stack_slots.specs.declared.words.BodyWord.{BodyWord}
 use Rattle.stack_slots.specs.Results.{HasCells, AreCellsOf}
@@ -68,14 +67,14 @@ module _ (G : Graph) (ls : List Level) (nest : AreNest G ls) where
   first_is l = ap (λ (xs : List Level). get_or xs 0 l) nest.are
 
   -- there is one nest of the levels
-  nest_is : (N : Nest) → IsNestOf G ls N → N ≡ nest_of G nest.root nest.inner
+  pub nest_is : (N : Nest) → IsNestOf G ls N → N ≡ nest_of G nest.root nest.inner
   nest_is N is =
       let q = sym is.are ∙ nest.are in
       let r : is.root ≡ nest.root = cc in
       let s : is.inner ≡ nest.inner = cc in
       is.is ∙ ap (λ x. nest_of G x is.inner) r ∙ ap (nest_of G nest.root) s
 
-  this_nest : IsNestOf G ls (nest_of G nest.root nest.inner)
+  pub this_nest : IsNestOf G ls (nest_of G nest.root nest.inner)
   this_nest = record { root = nest.root; inner = nest.inner; are = nest.are; is = refl }
 
   module _ (points : List Values) (facts : AreFactsOf G ls no_cells 0 points) where
@@ -118,10 +117,10 @@ if_ok (Ok a) P Q f p = f a p
 if_ok (Err e) P Q f p = p
 
 -- the cells of the words that were made are those of the loop
-pub cells_in_end : {E : Type 0} (G : Graph) (ls ms : List Level) (nest : AreNest G ls) → ls ≡ ms → (none : Cells) → HasNoCells none → (points : List Values) (body : List ℕ) (words : List BodyWord) (r : Result Cells E) → body ≡ nest.root.body
+pub cells_in_end : {E : Type 0} (G : Graph) (ls ms : List Level) (nest : AreNest G ls) → ls ≡ ms → (none : Cells) → cell_map none ≡ no_cells → (points : List Values) (body : List ℕ) (words : List BodyWord) (r : Result Cells E) → body ≡ nest.root.body
     → AreFactsOf G ms (cell_map none) 0 points → words ≡ words_by (code_of G no_cells) body points → IfOk r (HasCells words) → IfOk r (AreCellsOf G ms)
 cells_in_end {E} G ls ms nest same none empty points body words r is_body facts is_words ok =
-    let bare = subst (λ (C : CellMap). AreFactsOf G ms C 0 points) (cells_none none empty.cells empty.uses) facts in
+    let bare = subst (λ (C : CellMap). AreFactsOf G ms C 0 points) empty facts in
     let own = subst (λ (xs : List Level). AreFactsOf G xs no_cells 0 points) (sym same) bare in
     let made = is_words ∙ ap (λ us. words_by (code_of G no_cells) us points) is_body in
     subst (λ (xs : List Level). IfOk r (AreCellsOf G xs)) same

@@ -1,4 +1,5 @@
 pub mod Touches
 pub mod CellRules
 pub mod Results
+pub mod CellLaws
 pub mod Uses

@@ -3,6 +3,7 @@
 #![tactic(auto)]
 
 mod faults;
+pub mod laws;
 mod list;
 #[cfg(test)]
 mod tests;
@@ -10,4 +11,5 @@ mod touches;
 mod uses;
 pub mod words;
 
+pub use laws::cells_are_found;
 pub use list::cells;

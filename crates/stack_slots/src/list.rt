@@ -2,7 +2,8 @@ ghost use Rattle.std.specs.Prelude.{◌≡◌, ◌<◌, ◌≤◌, [], true, len
 ghost use Rattle.std.specs.List.{list_any};
 ghost use Rattle.arrayvec.specs.ArrayVec.{array_vec_len};
 ghost use Rattle.loop_data.specs.LoopWords.{AreNest};
-ghost use Rattle.loop_data.specs.Lookups.{HasNoCells};
+ghost use Rattle.loop_data.specs.Locations.{no_cells};
+ghost use Rattle.loop_data.specs.Lookups.{cell_map, AreNumbered};
 ghost use Rattle.loop_data.specs.Paths.{IsInOrder};
 ghost use Rattle.stack_slots.specs.declared.words.BodyWord.{BodyWord};
 ghost use Rattle.stack_slots.specs.CellRules.{uses_cell, use_one_cell, cell_of, first_uses};
@@ -75,7 +76,8 @@ fn uses_of(words: &[BodyWord], firsts: &[BodyWord]) -> ArrayVec<(u64, u8), 256>
 
 /// No cells, and no word that accesses one.
 fn no_cells() -> Cells
-    ensures { HasNoCells result }
+    ensures none { cell_map result ≡ no_cells }
+    ensures numbered { AreNumbered result }
 {
     Cells {
         list: ArrayVec::new(),

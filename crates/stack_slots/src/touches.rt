@@ -13,7 +13,7 @@ ghost use Rattle.stack_slots.specs.Touches.{is_kept, known_by, known_address, to
 use crate::words::{BodyWord, KnownAddress, Touch};
 use linear_forms::Loc;
 use loop_data::flow::instr_at;
-use loop_data::value_rows::word_writes;
+use loop_data::value_rows::instr_writes;
 use loop_data::{Graph, Value, Values};
 use rv64_decode::{Instr, LoadOp, Reg, StoreOp, Width};
 use std::alloc::{AllocError, Global};
@@ -30,7 +30,7 @@ fn is_written(graph: &Graph, body: &[u64], r: usize) -> bool
     ensures { result ≡ any_writes (code_of graph.now no_cells) body.now r }
 {
     for u in body {
-        if word_writes(*u, &instr_at(graph, *u), r) {
+        if instr_writes(&instr_at(graph, *u), None, r) {
             return true;
         }
     }

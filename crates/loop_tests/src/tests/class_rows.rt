@@ -1,18 +1,18 @@
 use crate::tests::samples::Program;
-use crate::tests::{nest_of, no_cells};
+use crate::tests::{cells_in, nest_of};
 use induction::{ClassErr, classes};
 use linear_forms::Loc;
 use loop_data::Class;
 use std::alloc::{AllocError, Global};
 use std::process::Abort;
 
-// What is to be found of the nest at a header: the least register that it carries, or the classes of the registers
-// that the root and the first inner loop write, and no others.
+// What is to be found of the nest at a header: the least location that it carries, or the classes of the
+// locations that the root and the first inner loop write, and no others.
 struct Case {
     name: &'static str,
     program: Program,
     header: u64,
-    carried: Option<u8>,
+    carried: Option<Loc>,
     root: &'static [(usize, Class)],
     inner: &'static [(usize, Class)],
 }
@@ -26,7 +26,7 @@ const BASE: Case = Case {
     inner: &[],
 };
 
-static CASES: [Case; 22] = [
+static CASES: [Case; 26] = [
     Case {
         name: "arrays that are added",
         header: 0x100f0,
@@ -42,7 +42,7 @@ static CASES: [Case; 22] = [
     Case {
         name: "an array that is summed up",
         header: 0x1011c,
-        carried: Some(7),
+        carried: Some(Loc::Reg(7)),
         ..BASE
     },
     Case {
@@ -74,7 +74,7 @@ static CASES: [Case; 22] = [
             0x0085_0513, // addi a0,a0,8
             0xfeb5_1ae3, // bne a0,a1,-12
         ]),
-        carried: Some(15),
+        carried: Some(Loc::Reg(15)),
         ..BASE
     },
     Case {
@@ -87,7 +87,7 @@ static CASES: [Case; 22] = [
             0x0085_0513, // addi a0,a0,8
             0xfeb5_16e3, // bne a0,a1,-20
         ]),
-        carried: Some(15),
+        carried: Some(Loc::Reg(15)),
         ..BASE
     },
     Case {
@@ -115,7 +115,7 @@ static CASES: [Case; 22] = [
             0x0085_0513, // addi a0,a0,8
             0xfeb5_1ce3, // bne a0,a1,-8
         ]),
-        carried: Some(10),
+        carried: Some(Loc::Reg(10)),
         ..BASE
     },
     Case {
@@ -126,7 +126,7 @@ static CASES: [Case; 22] = [
             0x0086_0613, // addi a2,a2,8
             0xfeb6_1ae3, // bne a2,a1,-12
         ]),
-        carried: Some(10),
+        carried: Some(Loc::Reg(10)),
         ..BASE
     },
     Case {
@@ -162,7 +162,7 @@ static CASES: [Case; 22] = [
             0x0007_8513, // addi a0,a5,0
             0xfeb5_16e3, // bne a0,a1,-20
         ]),
-        carried: Some(10),
+        carried: Some(Loc::Reg(10)),
         ..BASE
     },
     Case {
@@ -183,7 +183,7 @@ static CASES: [Case; 22] = [
             0x00f5_0533, // add a0,a0,a5
             0xfeb5_1ce3, // bne a0,a1,-8
         ]),
-        carried: Some(10),
+        carried: Some(Loc::Reg(10)),
         ..BASE
     },
     Case {
@@ -204,7 +204,7 @@ static CASES: [Case; 22] = [
             0x40f5_0533, // sub a0,a0,a5
             0xfeb5_1ce3, // bne a0,a1,-8
         ]),
-        carried: Some(10),
+        carried: Some(Loc::Reg(10)),
         ..BASE
     },
     Case {
@@ -224,7 +224,7 @@ static CASES: [Case; 22] = [
             0x0085_0513, // addi a0,a0,8
             0xfed5_1ae3, // bne a0,a3,-12
         ]),
-        carried: Some(7),
+        carried: Some(Loc::Reg(7)),
         ..BASE
     },
     Case {
@@ -235,7 +235,7 @@ static CASES: [Case; 22] = [
             0x0085_0513, // addi a0,a0,8
             0xfed5_1ae3, // bne a0,a3,-12
         ]),
-        carried: Some(7),
+        carried: Some(Loc::Reg(7)),
         ..BASE
     },
     Case {
@@ -258,7 +258,7 @@ static CASES: [Case; 22] = [
             0x0012_829b, // addiw t0,t0,1
             0xfe92_96e3, // bne t0,s1,-20
         ]),
-        carried: Some(7),
+        carried: Some(Loc::Reg(7)),
         ..BASE
     },
     Case {
@@ -285,7 +285,57 @@ static CASES: [Case; 22] = [
             0x0012_8293, // addi t0,t0,1
             0xfe92_94e3, // bne t0,s1,-24
         ]),
-        carried: Some(14),
+        carried: Some(Loc::Reg(14)),
+        ..BASE
+    },
+    Case {
+        name: "a counter, a pointer and a bound in memory",
+        program: Program::Counter,
+        header: 0x100a0,
+        root: &[
+            (14, Class::Private),
+            (15, Class::Private),
+            (32, Class::Induction(1)),
+        ],
+        ..BASE
+    },
+    Case {
+        name: "a sum that is kept in memory",
+        program: Program::Code(&[
+            0xfc84_3783, // ld a5,-56(s0)
+            0x00a7_87b3, // add a5,a5,a0
+            0xfcf4_3423, // sd a5,-56(s0)
+            0x0015_0513, // addi a0,a0,1
+            0xfeb5_18e3, // bne a0,a1,-16
+        ]),
+        carried: Some(Loc::Cell(0)),
+        ..BASE
+    },
+    Case {
+        name: "a number of 4 bytes that is counted in memory",
+        program: Program::Code(&[
+            0xfec4_2783, // lw a5,-20(s0)
+            0x0017_879b, // addiw a5,a5,1
+            0xfef4_2623, // sw a5,-20(s0)
+            0xfee7_cae3, // blt a5,a4,-12
+        ]),
+        root: &[(15, Class::Private), (32, Class::Induction(1))],
+        ..BASE
+    },
+    Case {
+        name: "memory that each turn writes before it reads it",
+        program: Program::Code(&[
+            0xfea4_3823, // sd a0,-16(s0)
+            0xff04_3783, // ld a5,-16(s0)
+            0x00f5_3023, // sd a5,0(a0)
+            0x0085_0513, // addi a0,a0,8
+            0xfeb5_18e3, // bne a0,a1,-16
+        ]),
+        root: &[
+            (10, Class::Induction(8)),
+            (15, Class::Private),
+            (32, Class::Private),
+        ],
         ..BASE
     },
 ];
@@ -314,7 +364,10 @@ fn is_right(alloc: Global, case: &Case) -> Result<bool, AllocError> {
     let Some(found) = nest_of(alloc, &case.program, case.header)? else {
         return Ok(false);
     };
-    match classes(alloc, &found.shape, &found.graph, &no_cells()) {
+    let Some(cells) = cells_in(alloc, &found)? else {
+        return Ok(false);
+    };
+    match classes(alloc, &found.shape, &found.graph, &cells) {
         Ok(classes) => Ok(
             case.carried.is_none()
                 && is_row(&classes.root, case.root)
@@ -322,11 +375,7 @@ fn is_right(alloc: Global, case: &Case) -> Result<bool, AllocError> {
                 && is_row(&classes.inner[1], &[])
                 && is_row(&classes.inner[2], &[]),
         ),
-        Err(
-            ClassErr::Carried {
-                loc: Loc::Reg(register),
-            },
-        ) => Ok(case.carried == Some(register)),
+        Err(ClassErr::Carried { loc }) => Ok(case.carried == Some(loc)),
         Err(_) => Ok(false),
     }
 }

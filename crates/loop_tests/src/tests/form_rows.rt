@@ -2,7 +2,7 @@ ghost use Rattle.loop_data.specs.LoopWords.{AreNest};
 ghost use Rattle.loop_data.specs.Paths.{IsInOrder};
 
 use crate::tests::samples::Program;
-use crate::tests::{Found, nest_of, no_cells};
+use crate::tests::{Found, cells_in, nest_of};
 use induction::classes;
 use linear_forms::{Form, Loc};
 use loop_data::{Duty, Equations, Point};
@@ -43,7 +43,7 @@ const BASE: Case = Case {
     unconfirmed: None,
 };
 
-static CASES: [Case; 6] = [
+static CASES: [Case; 8] = [
     Case {
         name: "arrays that are added",
         header: 0x100f0,
@@ -206,6 +206,50 @@ static CASES: [Case; 6] = [
         unconfirmed: Some(Loc::Reg(10)),
         ..BASE
     },
+    Case {
+        name: "a counter, a pointer and a bound in memory",
+        program: Program::Counter,
+        header: 0x100a0,
+        rows: &[
+            (0x100a8, 14, Shown(0, &[(Loc::Cell(0), 1)], [1, 0, 0])),
+            (0x100a8, 15, Shown(0, &[(Loc::Cell(2), 1)], [0, 0, 0])),
+            (0x10090, 14, Shown(0, &[(Loc::Cell(0), 1)], [1, 0, 0])),
+            (
+                0x10090,
+                15,
+                Shown(0, &[(Loc::Cell(0), 8), (Loc::Cell(1), 1)], [8, 0, 0]),
+            ),
+            (0x100a0, 32, Shown(0, &[(Loc::Cell(0), 1)], [1, 0, 0])),
+            (0x10090, 33, Shown(0, &[(Loc::Cell(1), 1)], [0, 0, 0])),
+        ],
+        formless: &[(0x100a0, 14), (0x100a0, 35)],
+        ..BASE
+    },
+    Case {
+        name: "a number of 4 bytes that is counted in memory",
+        program: Program::Code(&[
+            0xfec4_2783, // 0x10078: lw a5,-20(s0)
+            0x0017_879b, // 0x1007c: addiw a5,a5,1
+            0xfef4_2623, // 0x10080: sw a5,-20(s0)
+            0xfee7_cae3, // 0x10084: blt a5,a4,-12
+        ]),
+        rows: &[(0x10080, 15, Shown(1, &[(Loc::Cell(0), 1)], [1, 0, 0]))],
+        owed: &[
+            Owed {
+                at: 0x1007c,
+                level: 0,
+                around: [0, 0, 0],
+                form: Shown(1, &[(Loc::Cell(0), 1)], [1, 0, 0]),
+            },
+            Owed {
+                at: 0x10080,
+                level: 0,
+                around: [0, 0, 0],
+                form: Shown(1, &[(Loc::Cell(0), 1)], [1, 0, 0]),
+            },
+        ],
+        ..BASE
+    },
 ];
 
 pub fn is_form(form: &Form, shown: &Shown) -> bool {
@@ -276,7 +320,9 @@ pub fn equations_in(alloc: Global, found: &Found) -> Result<Option<Equations>, A
     requires graph { IsInOrder found.now.graph }
     requires nest { AreNest found.now.graph found.now.shape.levels }
 {
-    let cells = no_cells();
+    let Some(cells) = cells_in(alloc, found)? else {
+        return Ok(None);
+    };
     let Ok(classes) = classes(alloc, &found.shape, &found.graph, &cells) else {
         return Ok(None);
     };

@@ -8,9 +8,28 @@ pub enum Program {
     // Fills a square of 102 numbers a side, sets each inner one of another to the sum of its four neighbours in
     // the nest at 0x100ec, whose inner loop is at 0x10104, and sums that up.
     Neighbours,
+    // Stores a counter at a pointer and 8 times the counter, with counter, pointer and bound in memory; the header
+    // of the loop is its test, at 0x100a0.
+    Counter,
     // These words at 0x10078, and behind them a call that ends the run.
     Code(&'static [u32]),
 }
+
+static COUNTER: [u32; 13] = [
+    0x0280_006f, // 0x10078: jal x0,40
+    0xfe84_3783, // 0x1007c: ld a5,-24(s0)
+    0x0037_9793, // 0x10080: slli a5,a5,3
+    0xfd84_3703, // 0x10084: ld a4,-40(s0)
+    0x00f7_07b3, // 0x10088: add a5,a4,a5
+    0xfe84_3703, // 0x1008c: ld a4,-24(s0)
+    0x00e7_b023, // 0x10090: sd a4,0(a5)
+    0xfe84_3783, // 0x10094: ld a5,-24(s0)
+    0x0017_8793, // 0x10098: addi a5,a5,1
+    0xfef4_3423, // 0x1009c: sd a5,-24(s0)
+    0xfe84_3703, // 0x100a0: ld a4,-24(s0)
+    0xfd04_3783, // 0x100a4: ld a5,-48(s0)
+    0xfcf7_4ae3, // 0x100a8: blt a4,a5,-44
+];
 
 static ADDS: [u32; 84] = [
     0x464c_457f,
@@ -259,6 +278,7 @@ impl Program {
         match self {
             Program::Adds => push_words(&mut bytes, &ADDS)?,
             Program::Neighbours => push_words(&mut bytes, &NEIGHBOURS)?,
+            Program::Counter => push_file(&mut bytes, &COUNTER)?,
             Program::Code(code) => push_file(&mut bytes, code)?,
         }
         Ok(bytes)

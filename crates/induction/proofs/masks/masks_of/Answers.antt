@@ -1,8 +1,7 @@
-use Rattle.std.proofs.Common.{◌≡◌, ℕ, List, Option, length, get_or, ap, sym, ◌∙◌, refl, subst}
+use Rattle.std.proofs.Common.{◌≡◌, ℕ, List, length, get_or, ap, sym, ◌∙◌, refl, subst}
 use Rattle.std.proofs.lemmas.List.{length-set}
 use Rattle.std.specs.declared.vec.Vec.{Vec}
 use Rattle.std.specs.declared.alloc.Global.{Global}
-use Rattle.rv64_decode.specs.declared.instr.Instr.{Instr}
 use Rattle.loop_data.specs.Flows.{rows, AreRowsWithin, IsWholeOrder}
 use Rattle.loop_data.proofs.FlowOrders.{all_in_row}
 use Rattle.induction.specs.Masks.{mask_bit, AreMasks}
@@ -13,8 +12,8 @@ pub mask_at-mask-requires-clause-within : goal.mask_at-mask-requires-clause-with
 mask_at-mask-requires-clause-within c =
     let s = c.as_slice-sources.result.now in
     let e = c.as_slice-sources.ensures.value in
-    let n : length c.as_slice-instrs.result.now ≡ length (rows s) = ap length c.as_slice-instrs.ensures.value ∙ c.requires.instrs ∙ sym c.requires.sources ∙ ap (λ (q : List (Vec ℕ Global)). length (rows q)) (sym e) in
-    all_in_row (rows s) (get_or c.as_slice-order.result.now c.loop-p.p-index 0) c.row.result.now (length c.as_slice-instrs.result.now) c.row.ensures n
+    let n : length c.args.flow.now.instrs.items ≡ length (rows s) = c.requires.instrs ∙ sym c.requires.sources ∙ ap (λ (q : List (Vec ℕ Global)). length (rows q)) (sym e) in
+    all_in_row (rows s) (get_or c.as_slice-order.result.now c.loop-p.p-index 0) c.row.result.now (length c.args.flow.now.instrs.items) c.row.ensures n
     (subst (λ (q : List (Vec ℕ Global)). AreRowsWithin (rows q)) (sym e) c.requires.within)
 
 pub loop-p-preserved : goal.loop-p-preserved
@@ -26,8 +25,8 @@ loop-p-preserved c =
     let whole = subst (λ (q : List ℕ). IsWholeOrder (rows s) q) (sym c.as_slice-order.ensures.value) (subst (λ (q : List (Vec ℕ Global)). IsWholeOrder (rows q) c.args.flow.now.order.items) (sym e) c.requires.order) in
     let count : length (rows s) ≡ length c.args.body.now = ap (λ (q : List (Vec ℕ Global)). length (rows q)) e ∙ c.requires.sources in (
       length-set c.loop-p.masks.items p c.mask_at-mask.result ∙ c.loop-p.invariant.0,
-      masks_more c.args.header c.args.body.now c.as_slice-instrs.result.now (rows s) o c.loop-p.masks.items c.loop-p.p-index p c.mask_at-mask.result whole count c.loop-p.invariant.0 c.loop-p-test.true refl
-          (λ r l. c.mask_at-mask.ensures r l ∙ ap (λ (q : List ℕ). mask_bit c.args.header c.args.body.now c.as_slice-instrs.result.now q c.row.result.now p r) c.as_slice-before.ensures.value ∙ ap (λ (q : List ℕ). mask_bit c.args.header c.args.body.now c.as_slice-instrs.result.now c.loop-p.masks.items q p r) c.row.ensures)
+      masks_more c.args.header c.args.body.now c.args.flow.now (rows s) o c.loop-p.masks.items c.loop-p.p-index p c.mask_at-mask.result whole count c.loop-p.invariant.0 c.loop-p-test.true refl
+          (λ r l. c.mask_at-mask.ensures r l ∙ ap (λ (q : List ℕ). mask_bit c.args.header c.args.body.now c.args.flow.now q c.row.result.now p r) c.as_slice-before.ensures.value ∙ ap (λ (q : List ℕ). mask_bit c.args.header c.args.body.now c.args.flow.now c.loop-p.masks.items q p r) c.row.ensures)
           c.loop-p.invariant.1,
     )
 
@@ -38,6 +37,5 @@ returns c =
     let e = c.as_slice-sources.ensures.value in
     let whole = subst (λ (q : List ℕ). IsWholeOrder (rows s) q) (sym c.as_slice-order.ensures.value) (subst (λ (q : List (Vec ℕ Global)). IsWholeOrder (rows q) c.args.flow.now.order.items) (sym e) c.requires.order) in
     let count : length (rows s) ≡ length c.args.body.now = ap (λ (q : List (Vec ℕ Global)). length (rows q)) e ∙ c.requires.sources in
-    subst (λ (q : List (Vec ℕ Global)). AreMasks c.args.header c.args.body.now c.args.flow.now.instrs.items (rows q) c.loop-p.masks.items) e
-    (subst (λ (q : List (Option Instr)). AreMasks c.args.header c.args.body.now q (rows s) c.loop-p.masks.items) c.as_slice-instrs.ensures.value
-    (masks_all c.args.header c.args.body.now c.as_slice-instrs.result.now (rows s) o c.loop-p.masks.items c.loop-p.p-index whole count c.loop-p.invariant.0 c.loop-p-test.false c.loop-p.invariant.1))
+    subst (λ (q : List (Vec ℕ Global)). AreMasks c.args.header c.args.body.now c.args.flow.now (rows q) c.loop-p.masks.items) e
+    (masks_all c.args.header c.args.body.now c.args.flow.now (rows s) o c.loop-p.masks.items c.loop-p.p-index whole count c.loop-p.invariant.0 c.loop-p-test.false c.loop-p.invariant.1)

@@ -1,6 +1,8 @@
 use Rattle.std.proofs.Common.{List, subst}
 use Rattle.loop_data.specs.declared.shape.Level.{Level}
 use Rattle.induction.specs.Rows.{TellsRow, IsLeastAt}
+use Rattle.loop_data.specs.Lookups.{cell_map}
+use Rattle.loop_data.proofs.ValuePlaces.{few_of}
 use Rattle.induction.proofs.NestClasses.{is_at, levels_rise, few_levels, root_row_is, least_is}
 use Rattle.induction.proofs.nest.root_classes.Goals as goal
 
@@ -12,8 +14,8 @@ returns-in-Ok-clause-ok c =
     let l = c.index-levels-0.result in
     let w = c.in_ok-words.words in
     let few = few_levels c.args.graph.now c.args.shape.now.levels c.requires.nest in
-    let at = is_at c.args.graph.now c.args.shape.now.levels c.as_slice-levels.result.now 0 l w c.requires.nest few.1 c.as_slice-levels.ensures c.index-levels-0.is c.in_ok-words.ensures in
-    root_row_is c.args.graph.now c.args.shape.now.levels l w c.in-Ok.row c.args.cells.now c.requires.no_cells.cells c.requires.no_cells.uses at
+    let at = is_at c.args.graph.now (cell_map c.args.cells.now) c.args.shape.now.levels c.as_slice-levels.result.now 0 l w c.requires.nest few.1 c.as_slice-levels.ensures c.index-levels-0.is c.in_ok-words.ensures (few_of c.args.cells.now c.requires.cells) in
+    root_row_is c.args.graph.now (cell_map c.args.cells.now) c.args.shape.now.levels l w c.in-Ok.row at
     (subst (λ (ls : List Level). TellsRow ls l w c.in-Ok.row) c.as_slice-levels.ensures c.in-Ok.ensures.ok)
 
 pub returns-clause-err : goal.returns-clause-err
@@ -21,6 +23,6 @@ returns-clause-err c =
     let l = c.index-levels-0.result in
     let w = c.in_ok-words.words in
     let few = few_levels c.args.graph.now c.args.shape.now.levels c.requires.nest in
-    let at = is_at c.args.graph.now c.args.shape.now.levels c.as_slice-levels.result.now 0 l w c.requires.nest few.1 c.as_slice-levels.ensures c.index-levels-0.is c.in_ok-words.ensures in
-    least_is c.args.graph.now c.args.shape.now.levels l w c.in-Err.loc c.args.cells.now c.requires.no_cells.cells c.requires.no_cells.uses at
+    let at = is_at c.args.graph.now (cell_map c.args.cells.now) c.args.shape.now.levels c.as_slice-levels.result.now 0 l w c.requires.nest few.1 c.as_slice-levels.ensures c.index-levels-0.is c.in_ok-words.ensures (few_of c.args.cells.now c.requires.cells) in
+    least_is c.args.graph.now (cell_map c.args.cells.now) c.args.shape.now.levels l w c.in-Err.loc at
     (subst (λ (ls : List Level). IsLeastAt ls l w c.in-Err.loc) c.as_slice-levels.ensures c.in-Err.ensures.err)

@@ -5,5 +5,5 @@ use Rattle.induction.proofs.rows.root_class.Goals as goal
 pub returns-in-Nowhere-clause-ok : goal.returns-in-Nowhere-clause-ok
 returns-in-Nowhere-clause-ok c =
     let w = c.args.words.now in
-    let a = writers_in _ w.flow.instrs.items _ c.args.r Nowhere c.as_slice.ensures.value c.requires.sized.instrs c.in-Nowhere.ensures in
+    let a = writers_in w.flow _ c.args.r Nowhere c.requires.sized.instrs c.in-Nowhere.ensures in
     tells_none c.args.levels.now c.args.level.now w c.args.r c.requires.location a

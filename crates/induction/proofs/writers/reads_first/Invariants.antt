@@ -3,4 +3,4 @@ use Rattle.induction.specs.Masks.{has_bit, place_reads}
 use Rattle.induction.proofs.writers.reads_first.Given as goal
 
 abbrev pub invariant-loop-p : goal.invariant-loop-p
-invariant-loop-p l = (q : ℕ) → q < l.p → place_reads l.instrs q l.r ≡ true → has_bit (get_or l.masks q 0) l.r ≡ true
+invariant-loop-p l = (q : ℕ) → q < l.p → place_reads l.flow q l.r ≡ true → has_bit (get_or l.masks q 0) l.r ≡ true

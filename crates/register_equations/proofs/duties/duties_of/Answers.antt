@@ -1,13 +1,9 @@
-use Rattle.std.proofs.Common.{◌∙◌, sym, refl, subst}
+use Rattle.std.proofs.Common.{◌∙◌, sym, subst}
 use Rattle.std.specs.List.{Contains}
 use Rattle.std.proofs.lemmas.List.{get_or_default}
 use Rattle.loop_data.specs.declared.equations.Point.{Point}
 use Rattle.loop_data.specs.declared.shape.Level.{Level}
 use Rattle.loop_data.specs.Nests.{Holds}
-use Rattle.loop_data.specs.FormRows.{duty}
-use Rattle.loop_data.specs.Locations.{no_cells}
-use Rattle.loop_data.specs.LoopCode.{code_of}
-use Rattle.register_equations.specs.Rows.{forms_in}
 use Rattle.register_equations.specs.States.{no_forms, IsDutyAdded}
 use Rattle.register_equations.proofs.DutyLists.{duty_more}
 use Rattle.register_equations.proofs.duties.duties_of.Goals as goal
@@ -19,7 +15,6 @@ add_duty-requires-clause-held c =
 
 pub loop-i-preserved : goal.loop-i-preserved
 loop-i-preserved c =
-    let B = code_of c.args.graph.now no_cells in
     let e = c.index-points-i.is ∙ get_or_default c.args.points.now c.loop-i.i c.index-points-i.result no_forms c.loop-i-test.true in
-    duty_more B c.args.levels.now c.args.points.now c.loop-i.i c.loop-i.duties.items c.add_duty.new.duties.items _ c.requires.ordered c.loop-i-test.true refl
-    (subst (λ (p : Point). IsDutyAdded B c.args.levels.now p (duty B p.at (forms_in p.forms)) c.loop-i.duties.items c.add_duty.new.duties.items) e c.in_ok-add_duty.ensures) c.loop-i.invariant
+    duty_more c.args.flow.now c.args.levels.now c.args.points.now c.loop-i.i c.loop-i.duties.items c.add_duty.new.duties.items c.owed_at-owed.result c.requires.ordered c.loop-i-test.true (sym c.owed_at-owed.ensures)
+    (subst (λ (p : Point). IsDutyAdded c.args.levels.now p c.owed_at-owed.result c.loop-i.duties.items c.add_duty.new.duties.items) e c.in_ok-add_duty.ensures) c.loop-i.invariant

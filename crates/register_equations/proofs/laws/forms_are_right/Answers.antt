@@ -1,5 +1,5 @@
 use Rattle.register_equations.proofs.Runs.{form_law, turns_law}
-use Rattle.register_equations.proofs.Joined.{holds}
+use Rattle.register_equations.proofs.Joined.{result_law, result_turns_law}
 use Rattle.register_equations.proofs.laws.forms_are_right.Goals as goal
 
 pub returns-clause-visit : goal.returns-clause-visit
@@ -9,8 +9,7 @@ pub returns-clause-turns : goal.returns-clause-turns
 returns-clause-turns c = turns_law
 
 pub returns-clause-results : goal.returns-clause-results
-returns-clause-results c = holds
+returns-clause-results c = result_law
 
 pub returns-clause-results_in_turns : goal.returns-clause-results_in_turns
-returns-clause-results_in_turns c G ls nest words cells classes e s p none are equations confirmed each n lt inside =
-    holds G ls nest words cells classes e s n none are equations confirmed (each n lt inside)
+returns-clause-results_in_turns c = result_turns_law

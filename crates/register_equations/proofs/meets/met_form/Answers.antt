@@ -9,8 +9,8 @@ others_come-requires-clause-first c = (c.coming.ensures c.in-Some.form).0 c.in-S
 
 pub returns-else-others_come : goal.returns-else-others_come
 returns-else-others_come c =
-    met_differs (λ (k : ℕ) (f : LinearForm). Comes c.args.inner.now c.args.flow.now.instrs.items c.args.points.now k c.args.v c.args.r f) c.args.sources.now c.coming.result c.in-Some.form _ c.requires.some c.coming.ensures c.in-Some.is c.if-others_come.ensures
+    met_differs (λ (k : ℕ) (f : LinearForm). Comes c.args.inner.now c.args.flow.now c.args.points.now k c.args.v c.args.r f) c.args.sources.now c.coming.result c.in-Some.form _ c.requires.some c.coming.ensures c.in-Some.is c.if-others_come.ensures
 
 pub returns-in-None : goal.returns-in-None
 returns-in-None c =
-    met_nothing (λ (k : ℕ) (f : LinearForm). Comes c.args.inner.now c.args.flow.now.instrs.items c.args.points.now k c.args.v c.args.r f) c.args.sources.now c.coming.result _ c.requires.some c.coming.ensures c.in-None.is
+    met_nothing (λ (k : ℕ) (f : LinearForm). Comes c.args.inner.now c.args.flow.now c.args.points.now k c.args.v c.args.r f) c.args.sources.now c.coming.result _ c.requires.some c.coming.ensures c.in-None.is

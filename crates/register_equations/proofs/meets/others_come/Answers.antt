@@ -6,4 +6,4 @@ use Rattle.register_equations.proofs.meets.others_come.Goals as goal
 
 pub returns : goal.returns
 returns c =
-    all_past (λ (k : ℕ). Comes c.args.inner.now c.args.flow.now.instrs.items c.args.points.now k c.args.v c.args.r c.args.form.now) c.args.sources.now 0 c.all_come.result c.requires.some c.requires.first (subst (λ ks. IsTrue c.all_come.result ↔ All (λ (k : ℕ). Comes c.args.inner.now c.args.flow.now.instrs.items c.args.points.now k c.args.v c.args.r c.args.form.now) ks) c.rest.ensures c.all_come.ensures)
+    all_past (λ (k : ℕ). Comes c.args.inner.now c.args.flow.now c.args.points.now k c.args.v c.args.r c.args.form.now) c.args.sources.now 0 c.all_come.result c.requires.some c.requires.first (subst (λ ks. IsTrue c.all_come.result ↔ All (λ (k : ℕ). Comes c.args.inner.now c.args.flow.now c.args.points.now k c.args.v c.args.r c.args.form.now) ks) c.rest.ensures c.all_come.ensures)

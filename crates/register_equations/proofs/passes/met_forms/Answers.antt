@@ -10,7 +10,7 @@ loop-r-preserved c =
     let n = c.loop-r.invariant.0 in
     let within : c.loop-r.r < length c.loop-r.forms = let t = c.loop-r-test.true in omega arith in (
       length-set c.loop-r.forms c.loop-r.r c.met_form.result ∙ n,
-      filled (λ (q : ℕ) (o : Option LinearForm). IsMet c.args.inner.now c.args.flow.now.instrs.items c.args.points.now c.args.sources.now c.args.v q o) c.loop-r.forms c.loop-r.r c.met_form.result within c.loop-r.invariant.1 c.met_form.ensures,
+      filled (λ (q : ℕ) (o : Option LinearForm). IsMet c.args.inner.now c.args.flow.now c.args.points.now c.args.sources.now c.args.v q o) c.loop-r.forms c.loop-r.r c.met_form.result within c.loop-r.invariant.1 c.met_form.ensures,
     )
 
 pub returns-clause-forms : goal.returns-clause-forms

@@ -2,7 +2,7 @@ use Rattle.std.proofs.Common.{◌≡◌, ◌∙◌, ◌<◌, ℕ, Option, length
 use Rattle.std.proofs.lemmas.List.{length-set}
 use Rattle.linear_forms.specs.Forms.{LinearForm}
 use Rattle.loop_data.specs.Equations.{entry_form}
-use Rattle.loop_data.specs.Locations.{no_cells}
+use Rattle.loop_data.specs.Lookups.{cell_map}
 use Rattle.loop_data.specs.LoopCode.{code_of}
 use Rattle.register_equations.specs.States.{IsHeaderForm}
 use Rattle.register_equations.proofs.Coming.{filled, header_record}
@@ -10,7 +10,7 @@ use Rattle.register_equations.proofs.passes.root_forms.Goals as goal
 
 pub loop-r-preserved : goal.loop-r-preserved
 loop-r-preserved c =
-    let B = code_of c.args.graph.now no_cells in
+    let B = code_of c.args.graph.now (cell_map c.args.cells.now) in
     let n = c.loop-r.invariant.0 in
     let within : c.loop-r.r < length c.loop-r.forms = let t = c.loop-r-test.true in omega arith in
     let M = λ (q : ℕ) (o : Option LinearForm). o ≡ entry_form B q in

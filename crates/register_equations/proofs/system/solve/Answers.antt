@@ -3,16 +3,26 @@ use Rattle.loop_data.specs.declared.equations.Equations.{Equations}
 use Rattle.loop_data.specs.declared.equations.Point.{Point}
 use Rattle.loop_data.specs.declared.equations.Duty.{Duty}
 use Rattle.loop_data.specs.declared.shape.Level.{Level}
-use Rattle.loop_data.specs.Locations.{CellMap, no_cells}
-use Rattle.loop_data.specs.LoopCode.{code_of}
 use Rattle.loop_data.specs.LoopWords.{AreNest}
 use Rattle.loop_data.specs.Lookups.{cell_map}
 use Rattle.loop_data.specs.Results.{AreEquations}
-use Rattle.loop_data.proofs.ValuePlaces.{cells_none}
+use Rattle.loop_data.proofs.ValuePlaces.{few_of}
 use Rattle.register_equations.specs.Astray.{IsLeastAstray}
 use Rattle.register_equations.specs.States.{AreSolvedPoints, AreDutiesTo}
-use Rattle.register_equations.proofs.Equated.{deep, held, rising, equations_right}
+use Rattle.register_equations.proofs.Equated.{bodies, deep, held, rising, flow_of_root, instrs_fit, uses_fit, equations_right}
 use Rattle.register_equations.proofs.system.solve.Goals as goal
+
+pub duties_of-requires-clause-bodies : goal.duties_of-requires-clause-bodies
+duties_of-requires-clause-bodies c =
+    let G = c.args.graph.now in
+    let nest = subst (λ (ls : List Level). AreNest G ls) (sym c.as_slice-levels.ensures) c.requires.nest in
+    bodies G c.as_slice-levels.result.now nest
+
+pub unconfirmed-unconfirmed-requires-clause-bodies : goal.unconfirmed-unconfirmed-requires-clause-bodies
+unconfirmed-unconfirmed-requires-clause-bodies c =
+    let G = c.args.graph.now in
+    let nest = subst (λ (ls : List Level). AreNest G ls) (sym c.as_slice-levels.ensures) c.requires.nest in
+    bodies G c.as_slice-levels.result.now nest
 
 pub duties_of-requires-clause-depths : goal.duties_of-requires-clause-depths
 duties_of-requires-clause-depths c =
@@ -23,30 +33,69 @@ duties_of-requires-clause-depths c =
 pub duties_of-requires-clause-held : goal.duties_of-requires-clause-held
 duties_of-requires-clause-held c =
     let G = c.args.graph.now in
+    let C = cell_map c.args.cells.now in
     let ls = c.as_slice-levels.result.now in
     let nest = subst (λ (xs : List Level). AreNest G xs) (sym c.as_slice-levels.ensures) c.requires.nest in
-    let solved = subst (λ (ps : List Point). AreSolvedPoints G ls c.args.classes.now ps) (sym c.as_slice.ensures.value) c.in_ok-points.ensures in
-    held G ls nest c.args.classes.now c.as_slice.result.now solved
+    let solved = subst (λ (ps : List Point). AreSolvedPoints G C ls c.args.classes.now ps) (sym c.as_slice.ensures.value) c.in_ok-points.ensures in
+    held G ls nest C c.args.classes.now c.as_slice.result.now solved
 
 pub duties_of-requires-clause-ordered : goal.duties_of-requires-clause-ordered
 duties_of-requires-clause-ordered c =
     let G = c.args.graph.now in
+    let C = cell_map c.args.cells.now in
     let ls = c.as_slice-levels.result.now in
     let nest = subst (λ (xs : List Level). AreNest G xs) (sym c.as_slice-levels.ensures) c.requires.nest in
-    let solved = subst (λ (ps : List Point). AreSolvedPoints G ls c.args.classes.now ps) (sym c.as_slice.ensures.value) c.in_ok-points.ensures in
-    rising G ls nest c.args.classes.now c.as_slice.result.now solved
+    let solved = subst (λ (ps : List Point). AreSolvedPoints G C ls c.args.classes.now ps) (sym c.as_slice.ensures.value) c.in_ok-points.ensures in
+    rising G ls nest C c.args.classes.now c.as_slice.result.now solved
+
+pub duties_of-requires-clause-count : goal.duties_of-requires-clause-count
+duties_of-requires-clause-count c =
+    let G = c.args.graph.now in
+    let C = cell_map c.args.cells.now in
+    let ls = c.as_slice-levels.result.now in
+    let nest = subst (λ (xs : List Level). AreNest G xs) (sym c.as_slice-levels.ensures) c.requires.nest in
+    let solved = subst (λ (ps : List Point). AreSolvedPoints G C ls c.args.classes.now ps) (sym c.as_slice.ensures.value) c.in_ok-points.ensures in
+    instrs_fit G ls nest C c.args.classes.now c.as_slice.result.now solved c.in_ok-flow.flow (flow_of_root G ls nest C c.in_ok-flow.flow c.in_ok-flow.ensures)
+
+pub duties_of-requires-clause-uses : goal.duties_of-requires-clause-uses
+duties_of-requires-clause-uses c =
+    let G = c.args.graph.now in
+    let C = cell_map c.args.cells.now in
+    let ls = c.as_slice-levels.result.now in
+    let nest = subst (λ (xs : List Level). AreNest G xs) (sym c.as_slice-levels.ensures) c.requires.nest in
+    let solved = subst (λ (ps : List Point). AreSolvedPoints G C ls c.args.classes.now ps) (sym c.as_slice.ensures.value) c.in_ok-points.ensures in
+    uses_fit G ls nest C c.args.classes.now c.as_slice.result.now solved c.in_ok-flow.flow (flow_of_root G ls nest C c.in_ok-flow.flow c.in_ok-flow.ensures)
+
+pub unconfirmed-unconfirmed-requires-clause-count : goal.unconfirmed-unconfirmed-requires-clause-count
+unconfirmed-unconfirmed-requires-clause-count c =
+    let G = c.args.graph.now in
+    let C = cell_map c.args.cells.now in
+    let ls = c.as_slice-levels.result.now in
+    let nest = subst (λ (xs : List Level). AreNest G xs) (sym c.as_slice-levels.ensures) c.requires.nest in
+    let solved = subst (λ (ps : List Point). AreSolvedPoints G C ls c.args.classes.now ps) (sym c.as_slice-2.ensures.value) c.in_ok-points.ensures in
+    instrs_fit G ls nest C c.args.classes.now c.as_slice-2.result.now solved c.in_ok-flow.flow (flow_of_root G ls nest C c.in_ok-flow.flow c.in_ok-flow.ensures)
+
+pub unconfirmed-unconfirmed-requires-clause-uses : goal.unconfirmed-unconfirmed-requires-clause-uses
+unconfirmed-unconfirmed-requires-clause-uses c =
+    let G = c.args.graph.now in
+    let C = cell_map c.args.cells.now in
+    let ls = c.as_slice-levels.result.now in
+    let nest = subst (λ (xs : List Level). AreNest G xs) (sym c.as_slice-levels.ensures) c.requires.nest in
+    let solved = subst (λ (ps : List Point). AreSolvedPoints G C ls c.args.classes.now ps) (sym c.as_slice-2.ensures.value) c.in_ok-points.ensures in
+    uses_fit G ls nest C c.args.classes.now c.as_slice-2.result.now solved c.in_ok-flow.flow (flow_of_root G ls nest C c.in_ok-flow.flow c.in_ok-flow.ensures)
 
 pub returns : goal.returns
 returns c =
     let G = c.args.graph.now in
+    let C = cell_map c.args.cells.now in
     let ls = c.as_slice-levels.result.now in
     let classes = c.args.classes.now in
     let nest = subst (λ (xs : List Level). AreNest G xs) (sym c.as_slice-levels.ensures) c.requires.nest in
-    let solved = subst (λ (ps : List Point). AreSolvedPoints G ls classes ps) (sym c.new.ensures) c.in_ok-points.ensures in
+    let solved = subst (λ (ps : List Point). AreSolvedPoints G C ls classes ps) (sym c.new.ensures) c.in_ok-points.ensures in
     let points = c.as_slice.ensures.value ∙ sym c.new.ensures in
     let again = c.as_slice-2.ensures.value ∙ sym c.new.ensures in
-    let duties = subst (λ (ds : List Duty). AreDutiesTo (code_of G no_cells) ls c.new.result (length c.new.result) ds) (sym c.new-2.ensures) (subst (λ (ps : List Point). AreDutiesTo (code_of G no_cells) ls ps (length ps) c.in_ok-duties.duties.items) points c.in_ok-duties.ensures) in
-    let astray = subst (λ (ps : List Point). IsLeastAstray (code_of G no_cells) ls classes ps c.unconfirmed-unconfirmed.result) again c.unconfirmed-unconfirmed.ensures in
+    let duties = subst (λ (ds : List Duty). AreDutiesTo c.in_ok-flow.flow ls c.new.result (length c.new.result) ds) (sym c.new-2.ensures) (subst (λ (ps : List Point). AreDutiesTo c.in_ok-flow.flow ls ps (length ps) c.in_ok-duties.duties.items) points c.in_ok-duties.ensures) in
+    let astray = subst (λ (ps : List Point). IsLeastAstray c.in_ok-flow.flow ls classes ps c.unconfirmed-unconfirmed.result) again c.unconfirmed-unconfirmed.ensures in
     let e : Equations = record { points = c.new.result; duties = c.new-2.result; unconfirmed = c.unconfirmed-unconfirmed.result } in
-    subst (λ (xs : List Level). AreEquations G xs (cell_map c.args.cells.now) classes e) c.as_slice-levels.ensures
-    (subst (λ (C : CellMap). AreEquations G ls C classes e) (sym (cells_none c.args.cells.now c.requires.no_cells.cells c.requires.no_cells.uses)) (equations_right G ls nest classes e solved duties astray))
+    subst (λ (xs : List Level). AreEquations G xs C classes e) c.as_slice-levels.ensures
+    (equations_right G C (few_of c.args.cells.now c.requires.cells) ls nest classes c.in_ok-flow.flow (flow_of_root G ls nest C c.in_ok-flow.flow c.in_ok-flow.ensures) e solved duties astray)

@@ -13,4 +13,4 @@ returns c =
     let nest = subst (λ (xs : List Level). AreNest G xs) (sym c.as_slice-levels.ensures) c.requires.nest in
     let body = c.as_slice-body.ensures ∙ ap (λ (l : Level). l.body) (first_is G ls nest c.index-levels-0.result) in
     let words = c.as_slice-2.ensures.value ∙ c.in_ok-words.ensures ∙ ap (words_by (code_of G no_cells) c.as_slice-body.result.now) c.as_slice.ensures.value in
-    cells_in_end G ls c.args.shape.now.levels nest c.as_slice-levels.ensures c.no_cells-none.result c.no_cells-none.ensures c.in_ok-values.values.items c.as_slice-body.result.now c.as_slice-2.result.now c.cells_of.result body c.in_ok-values.ensures words c.cells_of.ensures
+    cells_in_end G ls c.args.shape.now.levels nest c.as_slice-levels.ensures c.no_cells-none.result c.no_cells-none.ensures.none c.in_ok-values.values.items c.as_slice-body.result.now c.as_slice-2.result.now c.cells_of.result body c.in_ok-values.ensures words c.cells_of.ensures

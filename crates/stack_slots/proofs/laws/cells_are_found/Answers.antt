@@ -1,0 +1,8 @@
+use Rattle.stack_slots.proofs.FoundCells.{numbered_law, found_law}
+use Rattle.stack_slots.proofs.laws.cells_are_found.Goals as goal
+
+pub returns-clause-numbered : goal.returns-clause-numbered
+returns-clause-numbered c = numbered_law
+
+pub returns-clause-found : goal.returns-clause-found
+returns-clause-found c = found_law
