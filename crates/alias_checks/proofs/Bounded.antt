@@ -1,5 +1,6 @@
 -- Ranges between the bounds of areas lie in the areas of a memory that has these bounds.
-use Rattle.std.proofs.Common.{◌≡◌, ℕ, ◌+◌, ◌%◌, ◌<◌, ◌≤◌, List, [], ◌∷◌, length, Bool, true, false, ◌&&◌, ◌||◌, Some, None, refl, ap, sym, ◌∙◌, arith, ℤ, pos, ◌≤ℤ◌, int_lt, not, if◌then◌else◌, ◌==◌}
+use Rattle.std.proofs.Common.{◌≡◌, ℕ, ◌+◌, ◌%◌, ◌<◌, ◌≤◌, List, [], ◌∷◌, length, Bool, true, false, ◌&&◌, ◌||◌, Some, None, refl, ap, sym, ◌∙◌, arith, ℤ, pos, ◌≤ℤ◌, if◌then◌else◌, ◌==◌}
+use Rattle.std.specs.Prelude.{int_le}
 use Rattle.std.proofs.Math.Path.{fun_ext}
 use Rattle.std.proofs.lemmas.Int.{ints}
 use Rattle.std.proofs.lemmas.Bool.{and_parts}
@@ -12,7 +13,7 @@ use Rattle.loop_data.specs.declared.verdict.Cell.{Cell}
 use Rattle.loop_data.specs.Locations.{address, width_of, width_by}
 use Rattle.alias_checks.specs.declared.areas.Permission.{Permission}
 use Rattle.alias_checks.specs.declared.areas.Permission.TheVariants.{Read, Write, ReadAndWrite}
-use Rattle.alias_checks.specs.Areas.{Range, Bounds, int_le, permits, has_range, in_memory, AreBounds, AreBoundsOf, may_write, flags_permit, bounds_have, in_bounds}
+use Rattle.alias_checks.specs.Areas.{Range, Bounds, permits, has_range, in_memory, AreBounds, AreBoundsOf, may_write, flags_permit, bounds_have, in_bounds}
 use Rattle.alias_checks.specs.CellTests.{cell_size, cell_permission, cell_fits, all_clear, HasRegister}
 use Rattle.alias_checks.specs.Entry.{IsReadable}
 use Rattle.alias_checks.specs.declared.lists.Check.{Check}
@@ -55,11 +56,7 @@ pub record IsFirst (k : Permission) (from : ℕ) (m : List Area) (x : ℕ) : Typ
   pub above : from ≤ x
 
 at_most : (x y : ℕ) → int_le (pos x) (pos y) ≡ true → x ≤ y
-at_most x y e = go (int_lt (pos y) (pos x)) refl e
-  where
-    go : (b : Bool) → int_lt (pos y) (pos x) ≡ b → not b ≡ true → x ≤ y
-    go true f h = absurd (cc)
-    go false f h = let k : pos x ≤ℤ pos y = grind (arith, ints) in omega (arith, ints)
+at_most x y e = let k : pos x ≤ℤ pos y = grind (arith, ints) in omega (arith, ints)
 
 first_in : (k : Permission) (from : ℕ) (m : List Area) (x e : ℕ) → AreasLieFrom from m → x < e
     → list_any (λ (a : Area). permits k a && has_range a (pos x, pos e)) m ≡ true → IsFirst k from m x

@@ -6,3 +6,6 @@ pub mod Shifts
 pub mod Bounded
 pub mod Rows
 pub mod StartBounds
+pub mod Facts
+pub mod Paired
+pub mod Holding

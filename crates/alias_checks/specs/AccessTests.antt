@@ -1,5 +1,5 @@
 -- What the forms and the accesses of a loop have to meet over all turns and passes.
-use Rattle.std.specs.Prelude.{ℕ, ◌≡◌, ◌*◌, ◌≤ℤ◌, zero, suc, ◌==◌, ◌-◌, ◌%◌, ◌^◌, ◌<◌, Bool, false, not, ◌&&◌, ◌||◌, nat_lt, if◌then◌else◌, List, ℤ, pos, negsuc, ◌+ℤ◌, ◌-ℤ◌, int_lt, slice_index, slice_index_or}
+use Rattle.std.specs.Prelude.{ℕ, ◌≡◌, ◌*◌, ◌≤ℤ◌, zero, suc, ◌==◌, ◌-◌, ◌%◌, ◌^◌, ◌<◌, Bool, false, not, ◌&&◌, ◌||◌, nat_lt, if◌then◌else◌, List, ℤ, pos, negsuc, ◌+ℤ◌, ◌-ℤ◌, int_le, int_lt, slice_index, slice_index_or}
 use Rattle.std.specs.List.{list_all}
 use Rattle.rv64_decode.specs.Area.{bytes_of}
 use Rattle.rv64_decode.specs.Row.{signed64}
@@ -16,7 +16,7 @@ use Rattle.dependence_tests.specs.Terms.{IsSized}
 use Rattle.alias_checks.specs.declared.areas.Permission.{Permission}
 use Rattle.alias_checks.specs.declared.areas.Permission.TheVariants.{Read, Write}
 use Rattle.alias_checks.specs.declared.lists.Place.{Place}
-use Rattle.alias_checks.specs.Areas.{Range, int_le}
+use Rattle.alias_checks.specs.Areas.{Range}
 use Rattle.alias_checks.specs.CellTests.{cell_range}
 use Rattle.alias_checks.specs.Entry.{start_value}
 

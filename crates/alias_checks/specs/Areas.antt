@@ -1,5 +1,5 @@
 -- Ranges of bytes, and the areas of memory in which they lie. A range is its first address and its end.
-use Rattle.std.specs.Prelude.{ℕ, ◌≡◌, ◌==◌, ◌+◌, ◌/◌, ◌%◌, Bool, not, ◌&&◌, List, [], ◌∷◌, length, ℤ, pos, int_lt}
+use Rattle.std.specs.Prelude.{ℕ, ◌≡◌, ◌==◌, ◌+◌, ◌/◌, ◌%◌, Bool, ◌&&◌, List, [], ◌∷◌, length, ℤ, pos, int_le}
 use Rattle.std.specs.List.{list_any}
 use Rattle.rv64_decode.specs.Area.{Area}
 use Rattle.alias_checks.specs.declared.areas.Permission.{Permission}
@@ -7,9 +7,6 @@ use Rattle.alias_checks.specs.declared.areas.Permission.TheVariants.{Read, Write
 
 abbrev pub Range : Type 0
 Range = ℤ × ℤ
-
-abbrev pub int_le : ℤ → ℤ → Bool
-int_le x y = not (int_lt y x)
 
 -- an area permits an access
 abbrev pub permits : Permission → Area → Bool

@@ -4,5 +4,7 @@ pub mod CellTests
 pub mod TurnTests
 pub mod AccessTests
 pub mod Answers
+pub mod Worked
 pub mod Listing
 pub mod BoundsLaws
+pub mod Holds

@@ -1,5 +1,5 @@
 -- What a check lists: each two accesses of which one is a store, and the bounds of an executable's areas.
-use Rattle.std.specs.Prelude.{ℕ, zero, suc, ◌≡◌, ◌<◌, ◌+◌, Bool, false, ◌||◌, if◌then◌else◌, List, [], ◌∷◌, ◌++◌, length, map, slice_index_or}
+use Rattle.std.specs.Prelude.{ℕ, zero, suc, ◌≡◌, ◌≤◌, ◌<◌, ◌+◌, Bool, true, false, ◌||◌, if◌then◌else◌, List, [], ◌∷◌, ◌++◌, length, map, slice_index_or}
 use Rattle.std.specs.List.{All}
 use Rattle.elf_image.specs.declared.image.Elf.{Elf}
 use Rattle.elf_image.specs.declared.image.Segment.{Segment}
@@ -38,10 +38,12 @@ Pair = ℕ × ℕ × Term
 abbrev pub places_in : List Pair → List Two
 places_in pairs = map (λ (t : Pair). (t.0, t.1)) pairs
 
--- the places of a pair are those of two accesses, and its term is theirs
+-- a pair is of two accesses of which one stores, the first at or before the second, and its term is theirs
 pub record IsPair (accesses : List Access) (t : Pair) : Type 0 where
   pub first : t.0 < length accesses
   pub second : t.1 < length accesses
+  pub order : t.0 ≤ t.1
+  pub stores : (stores_at accesses t.0 || stores_at accesses t.1) ≡ true
   pub term : (d : Access) → IsTermOf (slice_index_or accesses t.0 d) (slice_index_or accesses t.1 d) t.2
   pub sized : IsSized t.2
 

@@ -1,11 +1,11 @@
-ghost use Rattle.std.specs.Prelude.{◌≡◌, ◌<◌, ◌≤◌, ◌^◌, ◌∷◌, [], pos, negsuc, ◌*◌, ◌-◌, ◌≤ℤ◌, ◌+ℤ◌, int_lt, length, map, if◌then◌else◌, Some, None, is_some, IfSome};
+ghost use Rattle.std.specs.Prelude.{◌≡◌, ◌<◌, ◌≤◌, ◌^◌, ◌∷◌, [], pos, negsuc, ◌*◌, ◌-◌, ◌≤ℤ◌, ◌+ℤ◌, int_le, int_lt, length, map, if◌then◌else◌, Some, None, is_some, IfSome};
 ghost use Rattle.std.specs.List.{All, list_all};
 ghost use Rattle.rv64_decode.specs.Area.{bytes_of};
 ghost use Rattle.linear_forms.specs.Forms.{integers};
 ghost use Rattle.linear_forms.specs.Extremes.{highest_shift};
 ghost use Rattle.loop_data.specs.declared.plans.Term.{Term};
 ghost use Rattle.dependence_tests.specs.Overlaps.{last_pass, whole_range};
-ghost use Rattle.alias_checks.specs.Areas.{int_le, in_bounds};
+ghost use Rattle.alias_checks.specs.Areas.{in_bounds};
 ghost use Rattle.alias_checks.specs.CellTests.{IsLow};
 ghost use Rattle.alias_checks.specs.Entry.{start_value};
 ghost use Rattle.alias_checks.specs.AccessTests.{last_at, are_short, duty_fits, AreShifts, place_of, access_permission, access_fits, keeps_off, all_keep_off, box_of, pair_passes, IsLowPlace, IsPairOf};

@@ -1,6 +1,6 @@
-ghost use Rattle.std.specs.Prelude.{◌≡◌, pos};
+ghost use Rattle.std.specs.Prelude.{◌≡◌, pos, int_le};
 ghost use Rattle.dependence_tests.specs.PairTests.{are_disjoint};
-ghost use Rattle.alias_checks.specs.Areas.{int_le, may_read, may_write, flags_permit, bounds_have, in_bounds};
+ghost use Rattle.alias_checks.specs.Areas.{may_read, may_write, flags_permit, bounds_have, in_bounds};
 
 /// What is done with the bytes of a range.
 #[derive(Clone, Copy, PartialEq, Eq, Debug)]

@@ -11,6 +11,8 @@ pub mod laws;
 mod listing;
 pub mod lists;
 mod stays;
+#[cfg(test)]
+mod tests;
 
 pub use arrival::holds;
 pub use listing::check_of;

@@ -1,4 +1,4 @@
-ghost use Rattle.std.specs.Prelude.{◌≡◌, ◌<◌, ◌≤◌, ◌^◌, ◌+◌, ◌++◌, ◌∷◌, [], ◌||◌, if◌then◌else◌, length, drop, IfOk, OnOk};
+ghost use Rattle.std.specs.Prelude.{◌≡◌, ◌<◌, ◌≤◌, ◌^◌, ◌+◌, ◌++◌, ◌∷◌, [], true, ◌||◌, if◌then◌else◌, length, drop, IfOk, OnOk};
 ghost use Rattle.std.specs.List.{All};
 ghost use Rattle.elf_image.specs.Layout.{IsLoadable, load_end};
 ghost use Rattle.alias_checks.specs.AccessTests.{IsPairOf};
@@ -34,6 +34,8 @@ fn pair_at(accesses: &[Access], i: usize, j: usize) -> (u32, u32, Term)
     requires few { length accesses.now ≤ 32 }
     requires first { i < length accesses.now }
     requires second { j < length accesses.now }
+    requires order { i ≤ j }
+    requires stores { (stores_at accesses.now i || stores_at accesses.now j) ≡ true }
     ensures first { result.0 ≡ i }
     ensures second { result.1 ≡ j }
     ensures pair { IsPair accesses.now result }
@@ -51,6 +53,7 @@ fn push_pair(
     requires few { length accesses.now ≤ 32 }
     requires first { i < length accesses.now }
     requires second { j < length accesses.now }
+    requires order { i ≤ j }
     ensures places { OnOk result (places_in pairs.new.items ≡ places_in pairs.old.items
         ++ (if stores_at accesses.now i || stores_at accesses.now j then (i, j) ∷ [] else [])) }
     ensures each { OnOk result (All (IsPair accesses.now) pairs.old.items
