@@ -16,9 +16,9 @@ use Rattle.loop_data.specs.declared.trips.Trip.{Trip}
 use Rattle.loop_data.specs.declared.verdict.Cell.{Cell}
 use Rattle.loop_data.specs.Locations.{address}
 use Rattle.loop_data.specs.Trips.{number_of_stays}
-use Rattle.dependence_tests.specs.Overlaps.{whole_range}
-use Rattle.dependence_tests.specs.PairTests.{are_disjoint}
-use Rattle.dependence_tests.specs.Separation.{PassTest, TestLaw}
+use Rattle.dependence_tests.specs.Overlaps.{IsBoxOf}
+use Rattle.dependence_tests.specs.PairTests.{are_disjoint, pair_test}
+use Rattle.dependence_tests.specs.Separation.{AreDisjoint, PassTest, TestLaw}
 use Rattle.alias_checks.specs.declared.areas.Permission.{Permission}
 use Rattle.alias_checks.specs.declared.lists.Check.{Check}
 use Rattle.alias_checks.specs.declared.lists.Place.{Place}
@@ -81,7 +81,7 @@ unfolding are_clear
 clear_forth regs c d e ne s = go (or_forth (same_base c.base d.base) (not (c.stored || d.stored) || are_disjoint (cell_range regs c) (cell_range regs d)) e)
   where
     go : (same_base c.base d.base ≡ true) ⊎ ((not (c.stored || d.stored) || are_disjoint (cell_range regs c) (cell_range regs d)) ≡ true)
-        → Rattle.dependence_tests.specs.Separation.AreDisjoint (cell_range regs c) (cell_range regs d)
+        → AreDisjoint (cell_range regs c) (cell_range regs d)
     go (inl f) = absurd (ne (base_forth _ _ f))
     go (inr f) = disjoint_forth _ _ (unless_forth (c.stored || d.stored) (are_disjoint (cell_range regs c) (cell_range regs d)) f (or_back c.stored d.stored s))
 
@@ -262,18 +262,18 @@ place-nth e last (x ∷ xs) zero d h = refl
 place-nth e last (x ∷ xs) (suc i) d h = place-nth e last xs i d (omega arith)
 
 box_is : (e : ℕ → ℤ) (last : List ℕ) (a b : Access)
-    → Rattle.dependence_tests.specs.Overlaps.IsBoxOf a b (pos (first_address e a)) (pos (first_address e b)) (box_of last (place_of e last a) (place_of e last b))
+    → IsBoxOf a b (pos (first_address e a)) (pos (first_address e b)) (box_of last (place_of e last a) (place_of e last b))
 unfolding place_of
 box_is e last a b = record { difference = refl; first = refl; second = refl }
 
 -- a pair that passes, by its accesses
 passes_is : (e : ℕ → ℤ) (last : List ℕ) (xs : List Access) (t : Pair) (d : Access) → IsPair xs t
     → pair_passes (map (place_of e last) xs) last t
-    ≡ Rattle.dependence_tests.specs.PairTests.pair_test t.2 (box_of last (place_of e last (slice_index_or xs t.0 d)) (place_of e last (slice_index_or xs t.1 d)))
+    ≡ pair_test t.2 (box_of last (place_of e last (slice_index_or xs t.0 d)) (place_of e last (slice_index_or xs t.1 d)))
 unfolding pair_passes
 passes_is e last xs t d p =
-    ap (λ (q : Place). Rattle.dependence_tests.specs.PairTests.pair_test t.2 (box_of last q (place_at (map (place_of e last) xs) t.1))) (place-nth e last xs t.0 d p.first)
-    ∙ ap (λ (q : Place). Rattle.dependence_tests.specs.PairTests.pair_test t.2 (box_of last (place_of e last (slice_index_or xs t.0 d)) q)) (place-nth e last xs t.1 d p.second)
+    ap (λ (q : Place). pair_test t.2 (box_of last q (place_at (map (place_of e last) xs) t.1))) (place-nth e last xs t.0 d p.first)
+    ∙ ap (λ (q : Place). pair_test t.2 (box_of last (place_of e last (slice_index_or xs t.0 d)) q)) (place-nth e last xs t.1 d p.second)
 
 pair_is : TestLaw → (e : ℕ → ℤ) (last : List ℕ) (xs : List Access) (t : Pair) (d : Access) → IsPair xs t
     → (pair_passes (map (place_of e last) xs) last t ≡ true)

@@ -9,3 +9,4 @@ pub mod StartBounds
 pub mod Facts
 pub mod Paired
 pub mod Holding
+pub mod InTurns

@@ -41,9 +41,9 @@ three_falls a b c p q r = (omega (arith, ints), omega (arith, ints))
 three_rises : (a b c : ℤ) → IsRise a → IsRise b → IsRise c → (pos 0 ≤ℤ (a +ℤ (b +ℤ c))) × ((a +ℤ (b +ℤ c)) ≤ℤ pos (3 * 2 ^ 61))
 three_rises a b c p q r = (omega (arith, ints), omega (arith, ints))
 
-these : (f : LinearForm) (last : ℕ → ℕ) → IsBounded f → last 0 < 2 ^ 31 → last 1 < 2 ^ 31 → last 2 < 2 ^ 31
+pub shifts_of : (f : LinearForm) (last : ℕ → ℕ) → IsBounded f → last 0 < 2 ^ 31 → last 1 < 2 ^ 31 → last 2 < 2 ^ 31
     → AreShifts f last (lowest_shift f last, highest_shift f last)
-these f last b h k l =
+shifts_of f last b h k l =
     record {
       low = refl;
       high = refl;
@@ -58,4 +58,4 @@ are_shifts f last xs r b e a q =
     let is : r ≡ (lowest_shift f last, highest_shift f last) =
     q ∙ ap (λ (ys : List ℕ). (lowest_shift f (slice_index ys), highest_shift f (slice_index ys))) e in
     subst (AreShifts f last) (sym is)
-    (these f last b (small 0 0 (omega arith)) (small 1 0 (omega arith)) (small 2 0 (omega arith)))
+    (shifts_of f last b (small 0 0 (omega arith)) (small 1 0 (omega arith)) (small 2 0 (omega arith)))

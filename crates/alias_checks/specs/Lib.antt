@@ -8,3 +8,4 @@ pub mod Worked
 pub mod Listing
 pub mod BoundsLaws
 pub mod Holds
+pub mod Values

@@ -125,6 +125,47 @@ vadd =
       areas = [];
     }
 
+-- a nest: the root goes on while x10, which gains 1, is below x11, and the inner loop while x12 is below x13; it
+-- stores 8 bytes in each pass, from 0x20000 on, and begins 80 bytes farther in each turn
+abbrev pub rows : Check
+rows =
+    record {
+      cells = record { list = record { items = [] }; uses = record { items = [] }; fault = None };
+      trips =
+          below (pos 1)
+          ∷ record {
+            relation = Less;
+            signed = true;
+            start = record {
+              constant = pos 0;
+              terms = record { loc = 12; by = pos 1 } ∷ [];
+              first = pos 0;
+              second = pos 1;
+              third = pos 0;
+            };
+            bound = moving 13 (pos 0);
+            step = pos 1;
+          }
+          ∷ [];
+      duties = [];
+      accesses = record {
+        list = record {
+          items =
+              record {
+                at = 65536;
+                level = 1;
+                around = 0 ∷ 1 ∷ 0 ∷ [];
+                form = record { constant = pos 131072; terms = []; first = pos 80; second = pos 8; third = pos 0 };
+                width = Eight;
+                store = true;
+              }
+              ∷ [];
+        };
+      };
+      pairs = (0, 0, Same 80 (8 ∷ 0 ∷ 0 ∷ []) 8 8 8 (Some (pos 0))) ∷ [];
+      areas = [];
+    }
+
 -- memory of one area, from 0x20000 on, that may be read and written or read alone
 abbrev pub room : ℕ → Bool → List Area
 room n writable =

@@ -7,7 +7,8 @@ ghost use Rattle.alias_checks.specs.AccessTests.{duty_fits, access_fits, pair_pa
 ghost use Rattle.alias_checks.specs.Answers.{answer};
 ghost use Rattle.alias_checks.specs.BoundsLaws.{StartLaw, KeptLaw, EntryLaw};
 ghost use Rattle.alias_checks.specs.Holds.{HoldsLaw};
-ghost use Rattle.alias_checks.specs.Worked.{four, entered, below, told, two_areas, range, everywhere, cell, owing, up_to_turn, access, vadd, room, still, standing};
+ghost use Rattle.alias_checks.specs.Values.{DutyLaw, AddressLaw};
+ghost use Rattle.alias_checks.specs.Worked.{four, entered, below, told, two_areas, range, everywhere, cell, owing, up_to_turn, access, vadd, rows, room, still, standing};
 
 use dependence_tests::laws::terms_tell_of_accesses;
 
@@ -20,6 +21,13 @@ pub fn bounds_tell_areas()
 /// The entry values of a check are the values of the locations in the state of an arrival.
 pub fn entry_values_are_of_states()
     ensures { EntryLaw }
+{}
+
+/// Where a check holds, the values of duties are numbers of 32 bits in all turns and passes, and exactly then; and the
+/// addresses of accesses go on by their strides without wrapping.
+pub fn held_values_do_not_wrap()
+    ensures duties { DutyLaw }
+    ensures addresses { AddressLaw }
 {}
 
 /// The turns and passes that trips tell: of a counter in x10 and a bound in x11.
@@ -121,3 +129,13 @@ pub fn answers_tell_tests()
 {
     terms_tell_of_accesses();
 }
+
+/// A nest that stores 8 bytes in each pass and begins 80 bytes farther in each turn: x10 to x13 at the arrival, and an
+/// area from 0x20000 on.
+#[tactic(auto, unfolding(crate::specs::Entry::entry, crate::specs::Entry::start_value, crate::specs::TurnTests::turns_of, crate::specs::TurnTests::few_stays, crate::specs::AccessTests::access_fits, crate::specs::AccessTests::place_of, crate::specs::AccessTests::pair_passes, crate::specs::Areas::in_memory))]
+pub fn worked_rows()
+    ensures ten_passes { answer rows (four 0 16 0 9) (room 1280 true) ≡ told 16 10 }
+    ensures a_byte_less { answer rows (four 0 16 0 9) (room 1279 true) ≡ None }
+    ensures a_pass_more { answer rows (four 0 16 0 10) (room 4096 true) ≡ None }
+    ensures one_pass { answer rows (four 0 16 9 9) (room 1208 true) ≡ told 16 1 }
+{}
