@@ -29,13 +29,14 @@ pub record SinkState : Type 0 where
 abbrev pub File : Type 0
 File = List ℕ × List ℕ
 
--- the files by name, the numbers of the calls that fail, the number of the next call, and the
--- count of faults
+-- the files by name, the numbers of the calls that fail, the number of the next call, the count of
+-- faults, and that of failed saves
 pub record StoreState : Type 0 where
   pub entries : List File
   pub fails : List ℕ
   pub calls : ℕ
   pub faults : ℕ
+  pub failed_saves : ℕ
 
 -- the bytes under each name: those of its first entry
 abbrev pub files_of : List File → Files

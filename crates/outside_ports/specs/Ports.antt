@@ -25,6 +25,11 @@ Lacks files name = IsSomeAnd files (λ m. m name ≡ None)
 abbrev pub PassesLimit : Option (List ℕ) → ℕ → Type 0
 PassesLimit content limit = IsSomeAnd content (λ bytes. limit < length bytes)
 
+-- a store that tells no files: how many faults it has met, and how many of them were saves that failed
+pub record StoreCounts : Type 0 where
+  pub faults : ℕ
+  pub failed_saves : ℕ
+
 -- the files are told, and those under all other names are as before
 abbrev pub SameButIn : Files → Option Files → List ℕ → Type 0
 SameButIn m files name = IsSomeAnd files (λ n. (other : List ℕ) → other ≢ name → n other ≡ m other)

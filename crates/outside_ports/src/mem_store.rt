@@ -1,4 +1,4 @@
-ghost use Rattle.std.specs.Prelude.{◌≡◌, ◌↔◌, ◌⊎◌, ◌<◌, ◌≤◌, [], None, Some, Contains, IfOk, IfSome, IsNone, IsErrOf, OnErr, OnOk, length};
+ghost use Rattle.std.specs.Prelude.{◌≡◌, ◌≢◌, ◌↔◌, ◌⊎◌, ◌<◌, ◌≤◌, [], None, Some, Err, Contains, IfOk, IfSome, IsNone, IsErrOf, OnErr, OnOk, length};
 ghost use Rattle.outside_ports.specs.Fakes.{files_of, next_number, with_file};
 ghost use Rattle.outside_ports.specs.Ports.{Lacks, PassesLimit, Rose, SameButIn, SavedIn};
 
@@ -9,12 +9,13 @@ use std::alloc::{AllocError, Global};
 use std::marker::Model;
 
 /// Files in memory, where some calls of `load` and `save` fail. These calls are numbered together,
-/// from 0; their number and the count of faults stand still at 2 ^ 64 - 1.
+/// from 0; their number and the counts of faults and of failed saves stand still at 2 ^ 64 - 1.
 #[derive(Drop)]
 pub struct MemStore {
     alloc: Global,
     entries: Vec<Entry>,
     calls: Calls,
+    failed_saves: u64,
 }
 
 impl Model for MemStore {
@@ -27,18 +28,26 @@ impl Model for MemStore {
       fails = s.calls.fails.items;
       calls = s.calls.number;
       faults = s.calls.faults;
+      failed_saves = s.failed_saves;
     } };
 }
 
 impl MemStore {
     /// A store without files. The calls whose numbers are in `fails` fail.
     pub fn new(alloc: Global, fails: Vec<u64>) -> MemStore
-        ensures { result ≡ record { entries = []; fails = fails.items; calls = 0; faults = 0 } }
+        ensures { result ≡ record {
+          entries = [];
+          fails = fails.items;
+          calls = 0;
+          faults = 0;
+          failed_saves = 0;
+        } }
     {
         MemStore {
             alloc,
             entries: Vec::new(alloc),
             calls: Calls::new(fails),
+            failed_saves: 0,
         }
     }
 
@@ -69,6 +78,8 @@ impl Store for MemStore {
 
     ghost faults = { λ s. s.faults };
 
+    ghost failed_saves = { λ s. s.failed_saves };
+
     /// A load changes nothing but the number of calls and, where its number is among those that
     /// fail, the count of faults. A missing name raises no count.
     fn load(&mut self, alloc: Global, name: &str, limit: u64) -> Result<Vec<u8>, StoreErr>
@@ -89,6 +100,7 @@ impl Store for MemStore {
         ensures failed { IsErrOf result StoreErr.Failed
             → Rose self.old.faults self.new.faults ⊎ Lacks (Some (files_of self.old.entries)) name.now }
         ensures same { Some (files_of self.new.entries) ≡ Some (files_of self.old.entries) }
+        ensures no_save { self.new.failed_saves ≡ self.old.failed_saves }
         ensures never_falls { self.old.faults ≤ self.new.faults }
     {
         if self.calls.begin().is_err() {
@@ -116,6 +128,7 @@ impl Store for MemStore {
         ensures after_fault { IsErrOf result SaveErr.Failed → self.new ≡ record self.old {
           calls = next_number self.old.calls;
           faults = next_number self.old.faults;
+          failed_saves = next_number self.old.failed_saves;
         } }
         ensures no_memory { IsErrOf result SaveErr.OutOfMemory
             → self.new ≡ record self.old { calls = next_number self.old.calls } }
@@ -123,13 +136,17 @@ impl Store for MemStore {
         ensures saved { OnOk result (SavedIn (files_of self.old.entries) (Some (files_of self.new.entries))
             name.now bytes.now) }
         ensures failed { IsErrOf result SaveErr.Failed → Rose self.old.faults self.new.faults }
+        ensures failed_save { IsErrOf result SaveErr.Failed → Rose self.old.failed_saves self.new.failed_saves }
+        ensures no_failed_save { result ≢ Err SaveErr.Failed → self.new.failed_saves ≡ self.old.failed_saves }
         ensures others { IsErrOf result SaveErr.Failed
             → SameButIn (files_of self.old.entries) (Some (files_of self.new.entries)) name.now }
         ensures out_of_memory { IsErrOf result SaveErr.OutOfMemory
             → Some (files_of self.new.entries) ≡ Some (files_of self.old.entries) }
         ensures never_falls { self.old.faults ≤ self.new.faults }
+        ensures failed_saves_never_fall { self.old.failed_saves ≤ self.new.failed_saves }
     {
         if self.calls.begin().is_err() {
+            self.failed_saves = self.failed_saves.saturating_add(1);
             return Err(SaveErr::Failed);
         }
         match set(&mut self.entries, alloc, name, bytes) {

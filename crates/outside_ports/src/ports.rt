@@ -1,4 +1,4 @@
-ghost use Rattle.std.specs.Prelude.{◌≡◌, ◌+◌, ◌<◌, ◌≤◌, ◌++◌, ◌⊎◌, ℕ, List, Option, Some, length, take, IfOk, OnOk, OnErr, IsErrOf};
+ghost use Rattle.std.specs.Prelude.{◌≡◌, ◌≢◌, ◌+◌, ◌<◌, ◌≤◌, ◌++◌, ◌⊎◌, ℕ, List, Option, Some, Err, length, take, IfOk, OnOk, OnErr, IsErrOf};
 ghost use Rattle.outside_ports.specs.Ports.{Files, Rose, Moved, Lacks, PassesLimit, SavedIn, SameButIn};
 
 use std::alloc::Global;
@@ -76,6 +76,9 @@ pub trait Store {
     /// How many faults it has met; the count stands still at 2 ^ 64 - 1.
     ghost faults: { Self → ℕ };
 
+    /// How many of its faults were saves that failed; this count stands still there too.
+    ghost failed_saves: { Self → ℕ };
+
     /// All bytes under `name`, of which there are at most `limit`.
     fn load(&mut self, alloc: Global, name: &str, limit: u64) -> Result<Vec<u8>, StoreErr>
         ensures content { IfOk result (λ v. (m : Files) → files self.old ≡ Some m
@@ -86,6 +89,7 @@ pub trait Store {
         ensures failed { IsErrOf result StoreErr.Failed
             → Rose (faults self.old) (faults self.new) ⊎ Lacks (files self.old) name.now }
         ensures same { files self.new ≡ files self.old }
+        ensures no_save { failed_saves self.new ≡ failed_saves self.old }
         ensures never_falls { faults self.old ≤ faults self.new };
 
     /// Sets `name` to these bytes.
@@ -93,10 +97,14 @@ pub trait Store {
         ensures saved { OnOk result ((m : Files) → files self.old ≡ Some m
             → SavedIn m (files self.new) name.now bytes.now) }
         ensures failed { IsErrOf result SaveErr.Failed → Rose (faults self.old) (faults self.new) }
+        ensures failed_save { IsErrOf result SaveErr.Failed
+            → Rose (failed_saves self.old) (failed_saves self.new) }
+        ensures no_failed_save { result ≢ Err SaveErr.Failed → failed_saves self.new ≡ failed_saves self.old }
         ensures others { IsErrOf result SaveErr.Failed → (m : Files) → files self.old ≡ Some m
             → SameButIn m (files self.new) name.now }
         ensures out_of_memory { IsErrOf result SaveErr.OutOfMemory → files self.new ≡ files self.old }
-        ensures never_falls { faults self.old ≤ faults self.new };
+        ensures never_falls { faults self.old ≤ faults self.new }
+        ensures failed_saves_never_fall { failed_saves self.old ≤ failed_saves self.new };
 }
 
 /// A place that each hart passes as it starts in a running region.

@@ -44,7 +44,8 @@ lacks_first before now files name (inr lacks) = inr (inl lacks)
 pub rewritten_done : (file new bytes : List ℕ) (store between now : Stored) (input output : Stream) (answer : Status)
     (text : List ℕ) (made : Rewritten)
     → (answer ≡ Done) ⊎ ((answer ≡ StoreFault) ⊎ (answer ≡ OutOfMemory)) → text ≡ report_of (counts_of made) answer
-    → between.files ≡ store.files → store.faults ≤ between.faults → bytes ≡ made.bytes
+    → between.files ≡ store.files → store.faults ≤ between.faults → between.failed_saves ≡ store.failed_saves
+    → bytes ≡ made.bytes
     → ((m : Files) → store.files ≡ Some m → (new xs : List ℕ)
     → Does (Some (Rewrite file new)) m xs (image_saved new xs made))
     → ((m : Files) → between.files ≡ Some m → answer ≡ Done → AreSaved m now.files ((new, bytes) ∷ []))
@@ -52,12 +53,14 @@ pub rewritten_done : (file new bytes : List ℕ) (store between now : Stored) (i
     → StayBut answer m now.files ((new, bytes) ∷ []))
     → ((m : Files) → between.files ≡ Some m → SameButIn m now.files new)
     → (answer ≡ StoreFault → Rose between.faults now.faults)
+    → (answer ≡ StoreFault → Rose between.failed_saves now.failed_saves)
     → IsDone (Some (Rewrite file new)) (outside store input output) (outside now input output) answer text
-rewritten_done file new bytes store between now input output answer text made kept is same rises image does saved
-    stays others fault =
+rewritten_done file new bytes store between now input output answer text made kept is same rises unsaved image does
+    saved stays others fault failed =
     ended_done (Some (Rewrite file new)) (outside store input output) (outside now input output) Done answer
     (counts_of made) text kept is refl tt
     (λ e. rose_since store.faults between.faults now.faults rises (fault e))
+    (λ e. subst (λ (v : ℕ). Rose v now.failed_saves) unsaved (failed e))
     (λ m files. same_but_one m now.files new (others m (same ∙ files)))
     (λ m xs tells.
     let files = tells.files_are (λ e. cc) in (
@@ -104,6 +107,7 @@ listed_done file lines store now input output written answer text e is same hold
             ),
           );
       stopped = λ m xs tells f. let g = rw e at f in absurd (cc);
+      store_fault = λ f. let g = rw e at f in absurd (cc);
       others = λ m files. same_but m now.files [] (same ∙ files);
     }
 
@@ -129,6 +133,7 @@ cut_list_done file lines store now input output written answer text e is same ho
                   { why = inr (inl e); output = part; rest = λ other told. told; files = same },
             ),
           ));
+      store_fault = λ f. let g = rw e at f in absurd (cc);
       others = λ m files. same_but m now.files [] (same ∙ files);
     }
 
@@ -224,11 +229,12 @@ stops_since file fuel dump image m xs store between now input output read writte
 
 pub run_done : (file : List ℕ) (fuel : ℕ) (dump : Option (List ℕ)) (image : Image) (store between now : Stored)
     (input output read written : Stream) (answer : Status) (text : List ℕ)
-    → between.files ≡ store.files → store.faults ≤ between.faults
+    → between.files ≡ store.files → store.faults ≤ between.faults → between.failed_saves ≡ store.failed_saves
     → ((m : Files) → store.files ≡ Some m → HoldsImage (m file) image)
     → RunsTo image.elf fuel dump (outside between input output) (outside now read written) answer text
     → IsDone (Some (Run file fuel dump)) (outside store input output) (outside now read written) answer text
-run_done file fuel dump image store between now input output read written answer text same rises holds r =
+run_done file fuel dump image store between now input output read written answer text same rises unsaved holds r
+    =
     record {
       counts = r.counts;
       text_is = r.text_is;
@@ -250,6 +256,7 @@ run_done file fuel dump image store between now input output read written answer
           let told = tells.input_is (image, holds m files) in
           stops_since file fuel dump image m xs store between now input output read written answer same
           (holds m files) (r.stopped m xs (same ∙ files) told f);
+      store_fault = λ e. inl (subst (λ (v : ℕ). Rose v now.failed_saves) unsaved (r.failed_save e));
       others = λ m files. r.others m (same ∙ files);
     }
 

@@ -100,6 +100,7 @@ refused_done command store now input output status answer text kept t refusal fa
             ),
           );
       stopped = λ m xs tells f. inl (record { output = refl; rest = refl; files = same });
+      store_fault = λ e. inr (loads, record { output = refl; rest = refl; files = same });
       others = λ m files. same_but m now.files (needs_of command).saves (same ∙ files);
     }
 
@@ -178,11 +179,12 @@ pub ended_done : (command : Option Command) (before after : Outside) (status ans
     (text : List ℕ) → (answer ≡ status) ⊎ ((answer ≡ StoreFault) ⊎ (answer ≡ OutOfMemory))
     → text ≡ report_of counts answer → is_from_outside status ≡ false → HasCause command before after status
     → (answer ≡ StoreFault → Rose before.store.faults after.store.faults)
+    → (answer ≡ StoreFault → Rose before.store.failed_saves after.store.failed_saves)
     → ((m : Files) → before.store.files ≡ Some m → SameBut m after.store.files (needs_of command).saves)
     → ((m : Files) (xs : List ℕ) → Tells command before m xs → (effect : Effect)
     × IsEnd command effect m xs before after status answer counts)
     → IsDone command before after answer text
-ended_done command before after status answer counts text kept t inner cause fault others ends =
+ended_done command before after status answer counts text kept t inner cause fault failed others ends =
     record {
       counts = counts;
       text_is = t;
@@ -201,16 +203,22 @@ ended_done command before after status answer counts text kept t inner cause fau
                   r.1.ready kept inner f r.1.more (r.1.stays f),
             ),
           ));
+      store_fault = λ e. inl (failed e);
       others = others;
     }
+
+no_store_fault : (answer status : Status) → (answer ≡ status) ⊎ (answer ≡ OutOfMemory) → status ≢ StoreFault
+    → answer ≢ StoreFault
+no_store_fault answer status (inl e) other f = other (sym e ∙ f)
+no_store_fault answer status (inr e) other f = cc
 
 -- a command that has no file
 pub plain_done : (command : Option Command) (store : Stored) (input output : Stream) (status answer : Status)
     (text : List ℕ) → (answer ≡ status) ⊎ (answer ≡ OutOfMemory)
     → text ≡ report_of no_counts answer → HasCause command (outside store input output) (outside store input output)
-    status → ((m : Files) (xs : List ℕ) → Does command m xs (only status xs))
+    status → status ≢ StoreFault → ((m : Files) (xs : List ℕ) → Does command m xs (only status xs))
     → IsDone command (outside store input output) (outside store input output) answer text
-plain_done command store input output status answer text kept t cause does =
+plain_done command store input output status answer text kept t cause other does =
     record {
       counts = no_counts;
       text_is = t;
@@ -224,6 +232,7 @@ plain_done command store input output status answer text kept t cause does =
         ),
       );
       stopped = λ m xs tells f. inl (record { output = refl; rest = refl; files = refl });
+      store_fault = λ e. absurd (no_store_fault answer status kept other e);
       others = λ m files. same_but m store.files (needs_of command).saves files;
     }
 
@@ -245,18 +254,19 @@ pub late_given : (answer given : Status) (text : List ℕ) (before after : Strea
 late_given answer given text before after (inl g) late = ap comes_first g.0 ∙ late
 late_given answer given text before after (inr g) late = ap comes_first g.0
 
-pub alone_given : {S I O : Type 0} (command : Option Command) (files : Option Files) (answer given : Status)
+pub alone_given : {S I O : Type 0} (command : Option Command) (old new : Stored) (answer given : Status)
     (text : List ℕ) (before after : Stream) (store saved : S) (input read : I) (output written : O)
     → IsGiven answer text before after given
-    → LeavesAlone command files answer store saved input read output written
-    → LeavesAlone command files given store saved input read output written
-alone_given command files answer given text before after store saved input read output written (inl g) h =
-    subst (λ (v : Status). LeavesAlone command files v store saved input read output written) (sym g.0) h
-alone_given command files answer given text before after store saved input read output written (inr g) h =
+    → LeavesAlone command old new answer store saved input read output written
+    → LeavesAlone command old new given store saved input read output written
+alone_given command old new answer given text before after store saved input read output written (inl g) h =
+    subst (λ (v : Status). LeavesAlone command old new v store saved input read output written) (sym g.0) h
+alone_given command old new answer given text before after store saved input read output written (inr g) h =
     record {
       refused = λ first. let late = rw g.0 at first in absurd (cc);
       unread = h.unread;
       unwritten = h.unwritten;
+      unloaded = λ failed. let other : WriteFault ≡ StoreFault = sym g.0 ∙ failed in absurd (cc);
       unsaved = λ none failed. let other : WriteFault ≡ StoreFault = sym g.0 ∙ failed in absurd (cc);
       store_unasked = h.store_unasked;
       input_unasked = h.input_unasked;

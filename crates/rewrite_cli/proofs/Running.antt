@@ -122,6 +122,7 @@ fault_runs grows elf fuel dump store now input read output written start machine
       text_is = is;
       late = late;
       store_fault = λ v. absurd (other v);
+      failed_save = λ v. absurd (other v);
       read_fault = reading;
       write_fault = writing;
       inside = λ m xs files told f. absurd (cc);
@@ -188,14 +189,16 @@ pub ended_runs : (elf : Elf) (fuel : ℕ) (dump : Option (List ℕ)) (store now 
     → StayBut answer m now.files (dump_of dump (status_of_end end) machine.memory))
     → ((m : Files) → store.files ≡ Some m → SameBut m now.files (names_of dump))
     → (answer ≡ StoreFault → Rose store.faults now.faults)
+    → (answer ≡ StoreFault → Rose store.failed_saves now.failed_saves)
     → RunsTo elf fuel dump (outside store input output) (outside now read written) answer text
 ended_runs elf fuel dump store now input read output written start machine end steps answer text begun runs e clean
-    counted kept inner is saved stays others fault =
+    counted kept inner is saved stays others fault failed =
     record {
       counts = of_steps steps;
       text_is = is;
       late = late_answer end answer kept;
       store_fault = fault;
+      failed_save = failed;
       read_fault = λ v. absurd (no_port_answer end answer ReadFault kept inner v refl (λ u. cc) (λ u. cc));
       write_fault = λ v. absurd (no_port_answer end answer WriteFault kept inner v refl (λ u. cc) (λ u. cc));
       inside = λ m xs files told f.
@@ -259,6 +262,7 @@ unbegun_runs elf fuel dump store now input output answer text same e is =
       text_is = is;
       late = ap comes_first e;
       store_fault = λ v. absurd (cc);
+      failed_save = λ v. absurd (cc);
       read_fault = λ v. absurd (cc);
       write_fault = λ v. absurd (cc);
       inside = λ m xs files told f. let g = rw e at f in absurd (cc);

@@ -15,10 +15,11 @@ use Rattle.rewrite_cli.specs.declared.status.Status.TheVariants.{Usage, StoreFau
 
 -- ---- what the outside tells
 
--- the files that a store tells, and its count of faults
+-- the files that a store tells, and its counts of faults and of failed saves
 pub record Stored : Type 0 where
   pub files : Option Files
   pub faults : ℕ
+  pub failed_saves : ℕ
 
 -- the bytes that an input tells to be left, or an output to be written, and its count of faults
 pub record Stream : Type 0 where
@@ -30,8 +31,8 @@ pub record Outside : Type 0 where
   pub input : Stream
   pub output : Stream
 
-abbrev pub stored : Option Files → ℕ → Stored
-stored files faults = record { files = files; faults = faults }
+abbrev pub stored : Option Files → ℕ → ℕ → Stored
+stored files faults failed_saves = record { files = files; faults = faults; failed_saves = failed_saves }
 
 abbrev pub stream : Option (List ℕ) → ℕ → Stream
 stream bytes faults = record { bytes = bytes; faults = faults }
@@ -138,6 +139,9 @@ pub record IsDone (command : Option Command) (before after : Outside) (answer : 
   -- one that is: the command has done nothing, or stopped at a moment that it passes, or all but saved
   pub stopped : (m : Files) (input : List ℕ) → Tells command before m input → is_from_outside answer ≡ true
       → Stops (Passes command m input) (Does command m input) (StartsRun command m) m input before after answer
+  -- where the store failed, it failed to save, or the command loads files and has done nothing
+  pub store_fault : answer ≡ StoreFault → Rose before.store.failed_saves after.store.failed_saves
+      ⊎ (((needs_of command).loads ≢ []) × IsUntouched before after)
   -- files of other names than those that the command saves under stay
   pub others : (m : Files) → before.store.files ≡ Some m → SameBut m after.store.files (needs_of command).saves
 
@@ -148,6 +152,7 @@ pub record RunsTo (elf : Elf) (fuel : ℕ) (dump : Option (List ℕ)) (before af
   pub text_is : text ≡ report_of counts answer
   pub late : comes_first answer ≡ false
   pub store_fault : answer ≡ StoreFault → Rose before.store.faults after.store.faults
+  pub failed_save : answer ≡ StoreFault → Rose before.store.failed_saves after.store.failed_saves
   pub read_fault : answer ≡ ReadFault → Rose before.input.faults after.input.faults
   pub write_fault : answer ≡ WriteFault → Rose before.output.faults after.output.faults
   pub inside : (m : Files) (input : List ℕ) → before.store.files ≡ Some m → before.input.bytes ≡ Some input
@@ -177,14 +182,16 @@ pub record IsAnswered (command : Option Command) (before after : Outside) (repor
 
 -- what a command of this answer leaves as it was, whatever the ports tell: the store, the input and the output
 -- as they stand in the program, before and after. What the store has under FILE tells whether a run starts
-pub record LeavesAlone {S I O : Type 0} (command : Option Command) (files : Option Files) (answer : Status)
+pub record LeavesAlone {S I O : Type 0} (command : Option Command) (before after : Stored) (answer : Status)
     (store saved : S) (input read : I) (output written : O) : Type 0 where
   -- input and output after a refusal
   pub refused : comes_first answer ≡ true → (read ≡ input) × (written ≡ output)
   -- the input where no guest's run starts, and the output where there is none
-  pub unread : (m : Files) → files ≡ Some m → ¬ StartsRun command m → read ≡ input
-  pub unwritten : (m : Files) → files ≡ Some m → ¬ StartsOutput command m → written ≡ output
-  -- both where a command that saves no file answers that the store failed
+  pub unread : (m : Files) → before.files ≡ Some m → ¬ StartsRun command m → read ≡ input
+  pub unwritten : (m : Files) → before.files ≡ Some m → ¬ StartsOutput command m → written ≡ output
+  -- both where the store failed, but not to save, and where a command that saves no file answers so
+  pub unloaded : answer ≡ StoreFault
+      → Rose before.failed_saves after.failed_saves ⊎ ((read ≡ input) × (written ≡ output))
   pub unsaved : (needs_of command).saves ≡ [] → answer ≡ StoreFault → (read ≡ input) × (written ≡ output)
   -- what the command does not need is not asked
   pub store_unasked : (needs_of command).loads ≡ [] → (needs_of command).saves ≡ [] → saved ≡ store

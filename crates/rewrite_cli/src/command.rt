@@ -26,16 +26,18 @@ fn perform<S: Store, I: Source, O: Sink>(
     input: &mut I,
     out: &mut O,
 ) -> Reply
-    ensures done { let before = outside (stored (S.files store.old) (S.faults store.old))
+    ensures done { let before = outside (stored (S.files store.old) (S.faults store.old) (S.failed_saves store.old))
         (stream (I.rest input.old) (I.faults input.old)) (stream (O.written out.old) (O.faults out.old)) in
-        let after = outside (stored (S.files store.new) (S.faults store.new))
+        let after = outside (stored (S.files store.new) (S.faults store.new) (S.failed_saves store.new))
         (stream (I.rest input.new) (I.faults input.new)) (stream (O.written out.new) (O.faults out.new)) in
         IsDone (command_shown command.entry) before after result.status (text_of result) }
     ensures started { (m : Files) → S.files store.old ≡ Some m → StartsRun (command_shown command.entry) m
         → comes_first result.status ≡ false }
     ensures kept { keeps_files result.status ≡ true → S.files store.new ≡ S.files store.old }
     ensures wanting { result.status ≡ Status.OutOfMemory → S.files store.new ≡ S.files store.old }
-    ensures untouched { LeavesAlone (command_shown command.entry) (S.files store.old) result.status
+    ensures untouched { LeavesAlone (command_shown command.entry)
+        (stored (S.files store.old) (S.faults store.old) (S.failed_saves store.old))
+        (stored (S.files store.new) (S.faults store.new) (S.failed_saves store.new)) result.status
         store.old store.new input.old input.new out.old out.new }
 {
     match command {
@@ -61,16 +63,18 @@ pub fn command<R: Threads + Sync, S: Store, I: Source, O: Sink, P: Sink, G: Gate
 ) -> Status
     // What is done and said, with the cause of each answer.
     ensures answered { let command = command_of (map string_bytes words.now) in
-        let before = outside (stored (S.files store.old) (S.faults store.old))
+        let before = outside (stored (S.files store.old) (S.faults store.old) (S.failed_saves store.old))
         (stream (I.rest input.old) (I.faults input.old)) (stream (O.written out.old) (O.faults out.old)) in
-        let after = outside (stored (S.files store.new) (S.faults store.new))
+        let after = outside (stored (S.files store.new) (S.faults store.new) (S.failed_saves store.new))
         (stream (I.rest input.new) (I.faults input.new)) (stream (O.written out.new) (O.faults out.new)) in
         IsAnswered command before after
         (stream (P.written report.old) (P.faults report.old)) (stream (P.written report.new) (P.faults report.new))
         result }
 
     // What is not touched of the store, the input and the output.
-    ensures untouched { LeavesAlone (command_of (map string_bytes words.now)) (S.files store.old) result
+    ensures untouched { LeavesAlone (command_of (map string_bytes words.now))
+        (stored (S.files store.old) (S.faults store.old) (S.failed_saves store.old))
+        (stored (S.files store.new) (S.faults store.new) (S.failed_saves store.new)) result
         store.old store.new input.old input.new out.old out.new }
 
     // Whether a run is refused: not where the store has an image under FILE.

@@ -70,6 +70,8 @@ pub fn save_memory<S: Store>(
     ensures others { (m : Files) → S.files store.old ≡ Some m
         → SameBut m (S.files store.new) (names_of (option_copied name.entry)) }
     ensures store_fault { result.status ≡ Status.StoreFault → Rose (S.faults store.old) (S.faults store.new) }
+    ensures failed_save { result.status ≡ Status.StoreFault
+        → Rose (S.failed_saves store.old) (S.failed_saves store.new) }
     ensures kept { keeps_files result.status ≡ true → S.files store.new ≡ S.files store.old }
     ensures wanting { result.status ≡ Status.OutOfMemory → S.files store.new ≡ S.files store.old }
     ensures unsaved { IsNone name.entry → result.status ≢ Status.StoreFault }

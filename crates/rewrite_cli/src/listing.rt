@@ -92,6 +92,7 @@ fn load_lines<S: Store>(alloc: Global, store: &mut S, file: &str) -> Result<Stri
         ⊎ Lacks (S.files store.old) file.now) }
     ensures kind { IfErr result (λ e. is_refusal e ≡ true) }
     ensures same { S.files store.new ≡ S.files store.old }
+    ensures no_save { S.failed_saves store.new ≡ S.failed_saves store.old }
     ensures never_falls { S.faults store.old ≤ S.faults store.new }
 {
     let bytes = match load(alloc, store, file) {
@@ -110,8 +111,8 @@ pub fn list_file<S: Store, O: Sink>(alloc: Global, file: &str, store: &mut S, ou
     ensures done { (input : Stream) →
         let output = stream (O.written out.old) (O.faults out.old) in
         let listed = stream (O.written out.new) (O.faults out.new) in
-        let before = outside (stored (S.files store.old) (S.faults store.old)) input output in
-        let after = outside (stored (S.files store.new) (S.faults store.new)) input listed in
+        let before = outside (stored (S.files store.old) (S.faults store.old) (S.failed_saves store.old)) input output in
+        let after = outside (stored (S.files store.new) (S.faults store.new) (S.failed_saves store.new)) input listed in
         IsDone (Some (Loops file.now)) before after result.status (text_of result) }
     ensures refused { comes_first result.status ≡ true → out.new ≡ out.old }
     ensures kept { S.files store.new ≡ S.files store.old }

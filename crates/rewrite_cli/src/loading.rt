@@ -22,6 +22,7 @@ pub fn load<S: Store>(alloc: Global, store: &mut S, file: &str) -> Result<Vec<u8
         ⊎ Lacks (S.files store.old) file.now) }
     ensures kind { IfErr result (λ e. is_refusal e ≡ true) }
     ensures same { S.files store.new ≡ S.files store.old }
+    ensures no_save { S.failed_saves store.new ≡ S.failed_saves store.old }
     ensures never_falls { S.faults store.old ≤ S.faults store.new }
 {
     match store.load(alloc, file, LOAD_LIMIT) {

@@ -40,6 +40,7 @@ fn load_rewritten<S: Store>(alloc: Global, store: &mut S, file: &str) -> Result<
         ⊎ Lacks (S.files store.old) file.now) }
     ensures kind { IfErr result (λ e. is_refusal e ≡ true) }
     ensures same { S.files store.new ≡ S.files store.old }
+    ensures no_save { S.failed_saves store.new ≡ S.failed_saves store.old }
     ensures never_falls { S.faults store.old ≤ S.faults store.new }
 {
     match load(alloc, store, file) {
@@ -61,8 +62,8 @@ fn counts_from(made: &Rewritten) -> Counts
 /// Rewrites the executable of a name, and saves its image under `new`.
 pub fn rewrite_file<S: Store>(alloc: Global, file: &str, new: &str, store: &mut S) -> Reply
     ensures done { (input output : Stream) →
-        let before = outside (stored (S.files store.old) (S.faults store.old)) input output in
-        let after = outside (stored (S.files store.new) (S.faults store.new)) input output in
+        let before = outside (stored (S.files store.old) (S.faults store.old) (S.failed_saves store.old)) input output in
+        let after = outside (stored (S.files store.new) (S.faults store.new) (S.failed_saves store.new)) input output in
         IsDone (Some (Rewrite file.now new.now)) before after result.status (text_of result) }
     ensures kept { keeps_files result.status ≡ true → S.files store.new ≡ S.files store.old }
     ensures wanting { result.status ≡ Status.OutOfMemory → S.files store.new ≡ S.files store.old }

@@ -50,6 +50,7 @@ fn load_image<S: Store>(alloc: Global, store: &mut S, file: &str) -> Result<Imag
         ⊎ Lacks (S.files store.old) file.now) }
     ensures kind { IfErr result (λ e. is_refusal e ≡ true) }
     ensures same { S.files store.new ≡ S.files store.old }
+    ensures no_save { S.failed_saves store.new ≡ S.failed_saves store.old }
     ensures never_falls { S.faults store.old ≤ S.faults store.new }
 {
     match load(alloc, store, file) {
@@ -81,9 +82,9 @@ fn run_elf<S: Store, I: Source, O: Sink>(
     out: &mut O,
 ) -> Reply
     requires { IsLoadable elf.now }
-    ensures done { let before = outside (stored (S.files store.old) (S.faults store.old))
+    ensures done { let before = outside (stored (S.files store.old) (S.faults store.old) (S.failed_saves store.old))
         (stream (I.rest input.old) (I.faults input.old)) (stream (O.written out.old) (O.faults out.old)) in
-        let after = outside (stored (S.files store.new) (S.faults store.new))
+        let after = outside (stored (S.files store.new) (S.faults store.new) (S.failed_saves store.new))
         (stream (I.rest input.new) (I.faults input.new)) (stream (O.written out.new) (O.faults out.new)) in
         RunsTo elf.now fuel (option_copied dump.entry) before after result.status (text_of result) }
     ensures kept { keeps_files result.status ≡ true → S.files store.new ≡ S.files store.old }
@@ -120,14 +121,17 @@ pub fn run_file<S: Store, I: Source, O: Sink>(
     input: &mut I,
     out: &mut O,
 ) -> Reply
-    ensures done { let before = outside (stored (S.files store.old) (S.faults store.old))
+    ensures done { let before = outside (stored (S.files store.old) (S.faults store.old) (S.failed_saves store.old))
         (stream (I.rest input.old) (I.faults input.old)) (stream (O.written out.old) (O.faults out.old)) in
-        let after = outside (stored (S.files store.new) (S.faults store.new))
+        let after = outside (stored (S.files store.new) (S.faults store.new) (S.failed_saves store.new))
         (stream (I.rest input.new) (I.faults input.new)) (stream (O.written out.new) (O.faults out.new)) in
         IsDone (Some (Run file.now fuel (option_copied dump.entry))) before after result.status (text_of result) }
     ensures refused { comes_first result.status ≡ true → (input.new ≡ input.old) × (out.new ≡ out.old) }
     ensures kept { keeps_files result.status ≡ true → S.files store.new ≡ S.files store.old }
     ensures wanting { result.status ≡ Status.OutOfMemory → S.files store.new ≡ S.files store.old }
+    ensures unloaded { result.status ≡ Status.StoreFault
+        → Rose (S.failed_saves store.old) (S.failed_saves store.new)
+        ⊎ ((input.new ≡ input.old) × (out.new ≡ out.old)) }
     ensures unsaved { IsNone dump.entry → result.status ≡ Status.StoreFault
         → (input.new ≡ input.old) × (out.new ≡ out.old) }
     ensures started { (m : Files) (image : Shown) → S.files store.old ≡ Some m → HoldsImage (m file.now) image

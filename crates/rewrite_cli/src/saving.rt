@@ -31,6 +31,8 @@ pub fn save_and_reply<S: Store>(
         → StayBut result.status m (S.files store.new) ((name.now, bytes.now) ∷ []) }
     ensures others { (m : Files) → S.files store.old ≡ Some m → SameButIn m (S.files store.new) name.now }
     ensures store_fault { result.status ≡ Status.StoreFault → Rose (S.faults store.old) (S.faults store.new) }
+    ensures failed_save { result.status ≡ Status.StoreFault
+        → Rose (S.failed_saves store.old) (S.failed_saves store.new) }
     ensures wanting { result.status ≡ Status.OutOfMemory → S.files store.new ≡ S.files store.old }
     ensures never_falls { S.faults store.old ≤ S.faults store.new }
 {

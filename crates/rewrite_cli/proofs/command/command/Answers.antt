@@ -23,7 +23,7 @@ returns-clause-wanting g c = λ e few.
 
 pub returns-clause-untouched : goal.returns-clause-untouched
 returns-clause-untouched g c =
-    alone_given _ _ _ _ _ _ _ _ _ _ _ _ _ c.give.ensures
+    alone_given _ _ _ _ _ _ _ _ _ _ _ _ _ _ c.give.ensures
     (rw (← c.command_from-command.ensures) c.perform-reply.ensures.untouched)
 
 pub returns-clause-started : goal.returns-clause-started

@@ -7,7 +7,8 @@ use Rattle.rewrite_cli.proofs.command.perform.Goals as goal
 pub returns-in-Unknown-clause-done : goal.returns-in-Unknown-clause-done
 returns-in-Unknown-clause-done g c =
     rw c.in-Unknown.is
-    (plain_done None _ _ _ Usage _ _ c.reply_with.ensures.answer c.reply_with.ensures.text refl (λ m xs. refl))
+    (plain_done None _ _ _ Usage _ _ c.reply_with.ensures.answer c.reply_with.ensures.text refl (λ e. cc)
+    (λ m xs. refl))
 
 pub returns-in-Loops-clause-done : goal.returns-in-Loops-clause-done
 returns-in-Loops-clause-done g c =

@@ -13,13 +13,15 @@ returns-in-Ok-clause-done g c = λ input output.
       files = g.S.Store.files c.load_rewritten.new.store;
       faults = g.S.Store.faults
           c.load_rewritten.new.store;
+      failed_saves = g.S.Store.failed_saves c.load_rewritten.new.store;
     }) _ input output
     c.save_and_reply.result.status _ c.in-Ok.made c.save_and_reply.ensures.kind
     (c.save_and_reply.ensures.text ∙ ap (λ (counts : Counts). report_of counts c.save_and_reply.result.status)
     c.counts_from-counts.ensures)
-    c.in-Ok.ensures.same c.in-Ok.ensures.never_falls c.as_slice-image.ensures c.in-Ok.ensures.made
+    c.in-Ok.ensures.same c.in-Ok.ensures.never_falls c.in-Ok.ensures.no_save c.as_slice-image.ensures
+    c.in-Ok.ensures.made
     c.save_and_reply.ensures.saved c.save_and_reply.ensures.stays c.save_and_reply.ensures.others
-    c.save_and_reply.ensures.store_fault
+    c.save_and_reply.ensures.store_fault c.save_and_reply.ensures.failed_save
 
 pub returns-in-Err-clause-done : goal.returns-in-Err-clause-done
 returns-in-Err-clause-done g c = λ input output.

@@ -46,4 +46,4 @@ returns-clause-done g c =
     (inner_end end c.in_default-end.not-ReadFault c.in_default-end.not-WriteFault) c.save_memory.ensures.text
     (rw c.status_from.ensures at c.save_memory.ensures.saved)
     (rw c.status_from.ensures at c.save_memory.ensures.stays) c.save_memory.ensures.others
-    c.save_memory.ensures.store_fault
+    c.save_memory.ensures.store_fault c.save_memory.ensures.failed_save

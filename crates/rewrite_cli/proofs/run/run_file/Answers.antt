@@ -9,8 +9,9 @@ use Rattle.rewrite_cli.proofs.run.run_file.Goals as goal
 pub returns-in-Ok-clause-done : goal.returns-in-Ok-clause-done
 returns-in-Ok-clause-done g c =
     run_done c.args.file.now c.args.fuel (option_copied c.args.dump) c.in-Ok.image _
-    (stored (g.S.Store.files c.load_image.new.store) (g.S.Store.faults c.load_image.new.store)) _ _ _ _ _ _ _
-    c.in-Ok.ensures.same c.in-Ok.ensures.never_falls c.in-Ok.ensures.accepted c.run_elf.ensures.done
+    (stored (g.S.Store.files c.load_image.new.store) (g.S.Store.faults c.load_image.new.store)
+    (g.S.Store.failed_saves c.load_image.new.store)) _ _ _ _ _ _ _
+    c.in-Ok.ensures.same c.in-Ok.ensures.never_falls c.in-Ok.ensures.no_save c.in-Ok.ensures.accepted c.run_elf.ensures.done
 
 pub returns-in-Ok-clause-not_started : goal.returns-in-Ok-clause-not_started
 returns-in-Ok-clause-not_started g c = λ m files none. absurd (none c.in-Ok.image (c.in-Ok.ensures.accepted m files))
