@@ -294,6 +294,21 @@ case_is 'a list of a rewritten file' 124 '' 'refused marked 1'
 run 'printf x >>new; rewrite_cli run new 1 >out 2>report </dev/null'
 case_is 'a rewritten file with one byte more' 124 '' 'refused altered 328'
 
+# ---- samples that are made
+
+run 'rewrite_cli make vadd 1000 sample >out 2>report </dev/null' \
+    '[ $(stat -c %s sample) = 336 ]'
+case_is 'a sample' 0 '' 'made 336'
+run 'rewrite_cli run sample 1 >sum 2>report </dev/null' \
+    'printf "\204\335\026\0\0\0\0\0" | cmp -s - sum'
+case_is 'a sample that runs' 0 '' $'hart 0 instructions 19021\nsteps 19021\nexit 0'
+run 'rewrite_cli make stencil 2000000 square >out 2>report </dev/null' \
+    '[ ! -e square ]'
+case_is 'a sample that is too large: nothing is saved' 124 '' 'refused too-large 2000000'
+run 'rewrite_cli make vadd 0 none >out 2>report </dev/null' \
+    '[ ! -e none ]'
+case_is 'a sample of no numbers' 123 '' "$usage"
+
 # Files whose program headers are cut, each with one more byte changed: PLACE VALUE, and the refusal.
 change() {
     printf '%b' "$(printf '\\x%02x' "$2")" | dd of="$folder/pair" bs=1 seek="$1" conv=notrunc status=none

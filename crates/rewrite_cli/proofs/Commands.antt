@@ -1,7 +1,7 @@
 -- What each command has done.
 use Rattle.std.proofs.Common.{◌≡◌, ◌≢◌, ◌≤◌, ◌++◌, ℕ, ◌⊎◌, inl, inr, List, [], ◌∷◌, Option, Some, None, Ok, Result}
 use Rattle.std.proofs.Common.{Bool, true, false, refl, ap, sym, subst, ◌∙◌, arith}
-use Rattle.std.specs.Prelude.{take}
+use Rattle.std.specs.Prelude.{take, length}
 use Rattle.outside_ports.specs.Ports.{Files, Rose, Lacks, SameButIn}
 use Rattle.elf_image.specs.declared.image.Elf.{Elf}
 use Rattle.elf_image.specs.declared.rules.ElfErr.{ElfErr}
@@ -13,22 +13,24 @@ use Rattle.serial_run.specs.Serial.{start_of, serial, ended}
 use Rattle.serial_run.specs.declared.machine.End.{End}
 use Rattle.serial_run.specs.declared.machine.End.TheVariants.{Exited as DidExit, Faulted as DidFault, Spent as DidSpend}
 use Rattle.serial_run.specs.declared.machine.End.TheVariants.{ReadFault as SourceFault, WriteFault as SinkFault}
-use Rattle.rewrite_cli.specs.Words.{Run, Rewrite, Loops}
+use Rattle.sample_maker.specs.declared.Kind.{Kind}
+use Rattle.sample_maker.specs.Sample.{sample_bytes, limit}
+use Rattle.rewrite_cli.specs.Words.{Run, Rewrite, Loops, Make}
 use Rattle.rewrite_cli.specs.Listing.{Lines, TooMany, IsListing}
 use Rattle.rewrite_cli.specs.Needs.{LacksOne}
-use Rattle.rewrite_cli.specs.Counts.{no_counts}
+use Rattle.rewrite_cli.specs.Counts.{no_counts, of_sample}
 use Rattle.rewrite_cli.specs.Texts.{report_of}
-use Rattle.rewrite_cli.specs.Status.{is_from_outside, comes_first}
+use Rattle.rewrite_cli.specs.Status.{is_from_outside, is_refusal, comes_first}
 use Rattle.rewrite_cli.specs.Effect.{Effect, IsMomentOf, Does, Passes, StartsRun, HoldsImage, HoldsLines, OfImage}
 use Rattle.rewrite_cli.specs.Effect.{OfReading, Runs, RunsFile, ListsFile, OfFile, load_limit, only, ran, status_of}
-use Rattle.rewrite_cli.specs.Effect.{listed, image_saved, counts_of}
+use Rattle.rewrite_cli.specs.Effect.{listed, image_saved, counts_of, sample_saved, MakesSample}
 use Rattle.rewrite_cli.specs.Answer.{Stored, Stream, Outside, outside, Appends, AreSaved, StayBut, IsMet, Stops}
 use Rattle.rewrite_cli.specs.Answer.{HasCause, IsDone, RunsTo}
 use Rattle.rewrite_cli.specs.declared.status.Reason.TheVariants.{TooManyWords}
 use Rattle.rewrite_cli.specs.declared.status.Status.{Status}
 use Rattle.rewrite_cli.specs.declared.status.Status.TheVariants.{Done, Usage, Refused, OutOfMemory, WriteFault}
 use Rattle.rewrite_cli.specs.declared.status.Status.TheVariants.{StoreFault, ReadFault}
-use Rattle.rewrite_cli.proofs.Done.{appends_nothing, same_but, same_but_one, ended_done}
+use Rattle.rewrite_cli.proofs.Done.{appends_nothing, same_but, same_but_one, ended_done, plain_done, refusal_cause}
 use Rattle.rewrite_cli.proofs.Loaded.{loaded}
 
 pub rose_since : (before between now : ℕ) → before ≤ between → Rose between now → Rose before now
@@ -74,6 +76,49 @@ rewritten_done file new bytes store between now input output answer text made ke
         more = inr (λ e. cc);
       },
     ))
+
+-- ---- samples
+
+pub made_done : (kind : Kind) (size : ℕ) (new bytes : List ℕ) (store now : Stored) (input output : Stream)
+    (answer : Status) (text : List ℕ) → (answer ≡ Done) ⊎ ((answer ≡ StoreFault) ⊎ (answer ≡ OutOfMemory))
+    → text ≡ report_of (of_sample (length bytes)) answer → size ≤ limit kind → bytes ≡ sample_bytes kind size
+    → ((m : Files) → store.files ≡ Some m → answer ≡ Done → AreSaved m now.files ((new, bytes) ∷ []))
+    → ((m : Files) → store.files ≡ Some m → is_from_outside answer ≡ true
+    → StayBut answer m now.files ((new, bytes) ∷ []))
+    → ((m : Files) → store.files ≡ Some m → SameButIn m now.files new)
+    → (answer ≡ StoreFault → Rose store.faults now.faults)
+    → (answer ≡ StoreFault → Rose store.failed_saves now.failed_saves)
+    → IsDone (Some (Make kind size new)) (outside store input output) (outside now input output) answer text
+made_done kind size new bytes store now input output answer text kept is fits made saved stays others fault failed =
+    ended_done (Some (Make kind size new)) (outside store input output) (outside now input output) Done answer
+    (of_sample (length bytes)) text kept is refl tt fault failed
+    (λ m files. same_but_one m now.files new (others m files))
+    (λ m xs tells. (
+      sample_saved kind size new xs,
+      record {
+        does = inr (fits, refl);
+        ready = record {
+          status_is = refl;
+          report = ap (λ (v : List ℕ). report_of (of_sample (length v)) Done) made;
+          output = appends_nothing output.bytes;
+          rest = λ told. told;
+        };
+        saved = λ e t. subst (λ (v : List ℕ). AreSaved m now.files ((new, v) ∷ [])) made (saved m t e);
+        stays = λ f t. subst (λ (v : List ℕ). StayBut answer m now.files ((new, v) ∷ [])) made (stays m t f);
+        more = inr (λ e. cc);
+      },
+    ))
+
+-- a sample that is refused, or for which memory is wanted
+pub unmade_done : (kind : Kind) (size : ℕ) (new : List ℕ) (store : Stored) (input output : Stream)
+    (status answer : Status) (text : List ℕ) → (answer ≡ status) ⊎ (answer ≡ OutOfMemory)
+    → text ≡ report_of no_counts answer → (is_refusal status ≡ true) × (status ≢ StoreFault)
+    → (is_from_outside status ≡ false → (new xs : List ℕ) → MakesSample kind size new xs (only status xs))
+    → IsDone (Some (Make kind size new)) (outside store input output) (outside store input output) answer text
+unmade_done kind size new store input output status answer text kept is refusal does =
+    plain_done (Some (Make kind size new)) store input output status answer text kept is
+    (refusal_cause (Some (Make kind size new)) (outside store input output) (outside store input output) status
+    refusal.0 (λ e. absurd (refusal.1 e))) refusal.1 (λ f m xs. does f new xs)
 
 -- ---- lists
 

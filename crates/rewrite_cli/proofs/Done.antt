@@ -44,7 +44,7 @@ kept_saving answer status (inl e) f = e
 kept_saving answer status (inr (inl e)) f = let g = rw e at f in cc
 kept_saving answer status (inr (inr e)) f = let g = rw e at f in cc
 
-refusal_cause : (command : Option Command) (before after : Outside) (status : Status) → is_refusal status ≡ true
+pub refusal_cause : (command : Option Command) (before after : Outside) (status : Status) → is_refusal status ≡ true
     → (status ≡ StoreFault → Rose before.store.faults after.store.faults
     ⊎ LacksOne before.store.files (needs_of command).loads)
     → HasCause command before after status
@@ -216,21 +216,22 @@ no_store_fault answer status (inr e) other f = cc
 pub plain_done : (command : Option Command) (store : Stored) (input output : Stream) (status answer : Status)
     (text : List ℕ) → (answer ≡ status) ⊎ (answer ≡ OutOfMemory)
     → text ≡ report_of no_counts answer → HasCause command (outside store input output) (outside store input output)
-    status → status ≢ StoreFault → ((m : Files) (xs : List ℕ) → Does command m xs (only status xs))
+    status → status ≢ StoreFault
+    → (is_from_outside status ≡ false → (m : Files) (xs : List ℕ) → Does command m xs (only status xs))
     → IsDone command (outside store input output) (outside store input output) answer text
 plain_done command store input output status answer text kept t cause other does =
     record {
       counts = no_counts;
       text_is = t;
       cause = kept_cause command (outside store input output) (outside store input output) status answer kept cause;
-      inside = λ m xs tells f. (
-        only status xs,
-        (
-          does m xs,
-          only_met m xs store store input output status answer text
-              (kept_answer answer status kept f) t refl,
-        ),
-      );
+      inside = λ m xs tells f.
+          let e = kept_answer answer status kept f in (
+            only status xs,
+            (
+              does (ap is_from_outside (sym e) ∙ f) m xs,
+              only_met m xs store store input output status answer text e t refl,
+            ),
+          );
       stopped = λ m xs tells f. inl (record { output = refl; rest = refl; files = refl });
       store_fault = λ e. absurd (no_store_fault answer status kept other e);
       others = λ m files. same_but m store.files (needs_of command).saves files;

@@ -6,6 +6,9 @@ use Rattle.std.specs.Str.Parse.{digits_value, ParsesUnsigned}
 use Rattle.std.proofs.lemmas.Str.Parse.{IsNumeralModel, numerals_by_value, tells_all_ascii_digits, parse_plain}
 use Rattle.std.proofs.lemmas.Bool.{le-leb}
 use Rattle.std.proofs.lemmas.Bool.Decides.{nat_tests}
+use Rattle.std.specs.Prelude.{not, ◌&&◌}
+use Rattle.std.specs.Char.{digit_value}
+use Rattle.std.proofs.lemmas.Str.Parse.{digits_value-take-le}
 use Rattle.rewrite_cli.specs.Words.{is_number, number_up_to}
 
 digits : IsNumeralModel (λ ds. all_ascii_digits ds ≡ true) (digits_value 10)
@@ -62,3 +65,19 @@ read_none {E} word limit error r h fits parsed e =
     let read = parse_plain digits 64 word r parsed (omega arith) in
     let p = rw e at read in
     sym (not_read word limit (all_ascii_digits word) h fits refl p)
+
+-- ---- a number is at least 1
+
+counts : (first : ℕ) → eqb first 48 ≡ false → 1 ≤ digit_value first
+counts first other = grind (arith, nat_tests)
+
+no_zero : (zero others : Bool) → (not zero && others) ≡ true → zero ≡ false
+no_zero true others h = absurd (cc)
+no_zero false others h = refl
+
+pub at_least_one : (word : List ℕ) → is_number word ≡ true → 1 ≤ digits_value 10 word
+at_least_one [] h = absurd (cc)
+at_least_one (first ∷ others) h =
+    let front = counts first (no_zero (eqb first 48) (all_ascii_digits (first ∷ others)) h) in
+    let whole = digits_value-take-le 10 (first ∷ others) 1 (omega arith) in
+    omega (arith, front, whole)

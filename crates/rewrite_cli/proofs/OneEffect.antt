@@ -10,10 +10,11 @@ use Rattle.loop_data.specs.Loops.{AreLoops}
 use Rattle.rewriter.specs.Admission.{Admission, Admitted, Bad, Refused as IsRefused, Differs, admission_of}
 use Rattle.rewriter.specs.Rewriting.{rewriting_of}
 use Rattle.rewriter.specs.declared.rewriting.Rewritten.{Rewritten}
-use Rattle.rewrite_cli.specs.Words.{Run, Rewrite, Loops}
+use Rattle.sample_maker.specs.declared.Kind.{Kind}
+use Rattle.rewrite_cli.specs.Words.{Run, Rewrite, Loops, Make}
 use Rattle.rewrite_cli.specs.Listing.{Listing, Lines, TooMany, AreLines, IsListing, lines_of}
 use Rattle.rewrite_cli.specs.Effect.{Effect, OfFile, OfImage, OfRewriting, OfReading, RunsFile, Runs, RewritesFile}
-use Rattle.rewrite_cli.specs.Effect.{ListsFile, load_limit, listed}
+use Rattle.rewrite_cli.specs.Effect.{ListsFile, MakesSample, load_limit, listed}
 use Rattle.rewrite_cli.specs.Answer.{OneEffect}
 
 abbrev OneGraph : Type 0
@@ -72,6 +73,15 @@ one_list graph list xs (Ok elf) a b p q = p.1.1
     ∙ ap (λ (v : Listing). listed v xs) (one_listing graph list elf p.0 q.0 p.1.0 q.1.0) ∙ sym q.1.1
 one_list graph list xs (Err e) a b p q = p ∙ sym q
 
+-- ---- samples
+
+one_sample : (kind : Kind) (size : ℕ) (new xs : List ℕ) (a b : Effect) → MakesSample kind size new xs a
+    → MakesSample kind size new xs b → a ≡ b
+one_sample kind size new xs a b (inl p) (inl q) = p.1 ∙ sym q.1
+one_sample kind size new xs a b (inl p) (inr q) = let long = p.0 in let short = q.0 in absurd (omega arith)
+one_sample kind size new xs a b (inr p) (inl q) = let short = p.0 in let long = q.0 in absurd (omega arith)
+one_sample kind size new xs a b (inr p) (inr q) = p.1 ∙ sym q.1
+
 -- ---- commands
 
 pub one_effect : OneGraph → OneList → OneEffect
@@ -85,3 +95,4 @@ one_effect graph list (Some (Rewrite file new)) files xs a b p q =
 one_effect graph list (Some (Loops file)) files xs a b p q =
     one_of_file load_limit (ListsFile xs) xs (files file) a b (λ bytes. one_list graph list xs (reading_of bytes) a b)
     p q
+one_effect graph list (Some (Make kind size new)) files xs a b p q = one_sample kind size new xs a b p q

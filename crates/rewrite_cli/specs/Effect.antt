@@ -18,15 +18,17 @@ use Rattle.rewriter.specs.declared.rewriting.RewriteErr.{RewriteErr}
 use Rattle.rewriter.specs.declared.rewriting.RewriteErr.TheVariants.{Elf as NotRead, OutOfMemory as NoRoom}
 use Rattle.rewriter.specs.Rewriting.{rewriting_of}
 use Rattle.rewriter.specs.Admission.{Admission, Admitted, Bad, Refused as IsRefused, Differs, admission_of}
-use Rattle.rewrite_cli.specs.Words.{Command, Run, Rewrite, Loops}
+use Rattle.sample_maker.specs.declared.Kind.{Kind}
+use Rattle.sample_maker.specs.Sample.{sample_bytes, limit}
+use Rattle.rewrite_cli.specs.Words.{Command, Run, Rewrite, Loops, Make}
 use Rattle.rewrite_cli.specs.Listing.{Listing, Lines, TooMany, AreLines, IsListing}
 use Rattle.rewrite_cli.specs.Status.{is_ending}
-use Rattle.rewrite_cli.specs.Counts.{of_steps, no_counts}
+use Rattle.rewrite_cli.specs.Counts.{of_steps, of_sample, no_counts}
 use Rattle.rewrite_cli.specs.Refusals.{refusal_of}
 use Rattle.rewrite_cli.specs.Texts.{report_of}
 use Rattle.rewrite_cli.specs.declared.counts.Counts.{Counts}
 use Rattle.rewrite_cli.specs.declared.counts.Counts.TheVariants.{Image as Adds}
-use Rattle.rewrite_cli.specs.declared.status.Reason.TheVariants.{LoadTooLong, TooManyWords, BadMark, Altered}
+use Rattle.rewrite_cli.specs.declared.status.Reason.TheVariants.{LoadTooLong, TooManyWords, BadMark, Altered, TooLarge}
 use Rattle.rewrite_cli.specs.declared.status.Status.{Status}
 use Rattle.rewrite_cli.specs.declared.status.Status.TheVariants.{Done, Exited, Faulted, Spent, Usage, Refused}
 use Rattle.rewrite_cli.specs.declared.status.Status.TheVariants.{ReadFault, WriteFault, OutOfMemory}
@@ -149,6 +151,25 @@ OfReading input (Err e) effect = effect ≡ only (refusal_of e) input
 abbrev pub ListsFile : List ℕ → List ℕ → Effect → Type 0
 ListsFile input bytes effect = OfReading input (reading_of bytes) effect
 
+-- ---- samples
+
+-- a sample, and where it is saved
+abbrev pub sample_saved : Kind → ℕ → List ℕ → List ℕ → Effect
+sample_saved kind size new input =
+    record {
+      status = Done;
+      output = [];
+      rest = input;
+      report = report_of (of_sample (length (sample_bytes kind size))) Done;
+      saved = (new, sample_bytes kind size) ∷ [];
+    }
+
+-- the sample of a kind and size, saved under a name: a size past the kind's limit is refused
+abbrev pub MakesSample : Kind → ℕ → List ℕ → List ℕ → Effect → Type 0
+MakesSample kind size new input effect =
+    ((limit kind < size) × (effect ≡ only (Refused (TooLarge size)) input))
+    ⊎ ((size ≤ limit kind) × (effect ≡ sample_saved kind size new input))
+
 -- ---- commands
 
 -- the command has this effect, given the store's files and the input
@@ -159,6 +180,7 @@ Does (Some (Run file fuel dump)) files input effect =
 Does (Some (Rewrite file new)) files input effect =
     OfFile load_limit (RewritesFile new input) input (files file) effect
 Does (Some (Loops file)) files input effect = OfFile load_limit (ListsFile input) input (files file) effect
+Does (Some (Make kind size new)) files input effect = MakesSample kind size new input effect
 
 -- ---- on the way
 

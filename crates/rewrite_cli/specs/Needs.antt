@@ -1,7 +1,7 @@
 -- What a command needs of the outside, from its words alone.
 use Rattle.std.specs.Prelude.{ℕ, ◌≡◌, ◌≢◌, ◌⊎◌, Bool, true, false, List, [], ◌∷◌, Option, Some, None, IsSomeAnd}
 use Rattle.outside_ports.specs.Ports.{Files, Lacks}
-use Rattle.rewrite_cli.specs.Words.{Command, Run, Rewrite, Loops}
+use Rattle.rewrite_cli.specs.Words.{Command, Run, Rewrite, Loops, Make}
 
 pub record Needs : Type 0 where
   -- the names of the files that it loads, in this order
@@ -23,6 +23,7 @@ needs_of None = record { loads = []; saves = []; reads = false; writes = false }
 needs_of (Some (Run file fuel dump)) = record { loads = file ∷ []; saves = names_of dump; reads = true; writes = true }
 needs_of (Some (Rewrite file new)) = record { loads = file ∷ []; saves = new ∷ []; reads = false; writes = false }
 needs_of (Some (Loops file)) = record { loads = file ∷ []; saves = []; reads = false; writes = true }
+needs_of (Some (Make kind size new)) = record { loads = []; saves = new ∷ []; reads = false; writes = false }
 
 -- a store that tells its files has not all of these names
 abbrev pub LacksOne : Option Files → List (List ℕ) → Type 0

@@ -8,13 +8,15 @@ use Rattle.rewrite_cli.specs.Counts.{no_counts}
 use Rattle.rewrite_cli.specs.Status.{is_from_outside}
 use Rattle.rewrite_cli.specs.Texts.{report_of}
 use Rattle.rewrite_cli.specs.declared.words.Command.{Command}
-use Rattle.rewrite_cli.specs.declared.words.Command.TheVariants.{Run, Rewrite, Loops, Unknown}
+use Rattle.rewrite_cli.specs.declared.words.Command.TheVariants.{Run, Rewrite, Loops, Make, Unknown}
 use Rattle.rewrite_cli.specs.Words.{Command as Shown, Run as ShownRun, Rewrite as ShownRewrite, Loops as ShownLoops}
+use Rattle.rewrite_cli.specs.Words.{Make as ShownMake}
 
 abbrev pub command_shown : Command → Option Shown
 command_shown (Run file fuel dump) = Some (ShownRun file.now fuel (option_copied dump))
 command_shown (Rewrite file new) = Some (ShownRewrite file.now new.now)
 command_shown (Loops file) = Some (ShownLoops file.now)
+command_shown (Make kind size new) = Some (ShownMake kind size new.now)
 command_shown Unknown = None
 
 abbrev pub dump_shown : Option Dump → List File

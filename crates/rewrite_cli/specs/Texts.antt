@@ -10,7 +10,7 @@ use Rattle.rewrite_cli.specs.Refusals.{reason_text}
 use Rattle.rewrite_cli.specs.declared.status.Status.{Status}
 use Rattle.rewrite_cli.specs.Counts.{steps_of}
 use Rattle.rewrite_cli.specs.declared.counts.Counts.{Counts}
-use Rattle.rewrite_cli.specs.declared.counts.Counts.TheVariants.{Image}
+use Rattle.rewrite_cli.specs.declared.counts.Counts.TheVariants.{Image, Sample}
 use Rattle.rewrite_cli.specs.declared.status.Status.TheVariants.{Done, Exited, Faulted, Spent, Usage, Refused}
 use Rattle.rewrite_cli.specs.declared.status.Status.TheVariants.{StoreFault, ReadFault, WriteFault, OutOfMemory}
 
@@ -49,6 +49,7 @@ count_lines steps = line (codes "hart 0 instructions " ++ decimal steps) ++ line
 abbrev pub done_text : Counts → List ℕ
 done_text (Image entries words) = line (codes "rewritten entries " ++
     (decimal entries ++ (codes " words " ++ decimal words)))
+done_text (Sample bytes) = line (codes "made " ++ decimal bytes)
 done_text _ = []
 
 -- the report of an answer

@@ -1,6 +1,6 @@
 ghost use Rattle.std.specs.Prelude.{◌≡◌, ◌≤◌, ◌⊎◌, Some, length, map, string_bytes, true, false};
 ghost use Rattle.outside_ports.specs.Ports.{Files, Rose};
-ghost use Rattle.rewrite_cli.specs.Words.{command_of};
+ghost use Rattle.rewrite_cli.specs.Words.{command_of, HasSize};
 ghost use Rattle.rewrite_cli.specs.Reading.{command_shown, text_of};
 ghost use Rattle.rewrite_cli.specs.Needs.{needs_of};
 ghost use Rattle.rewrite_cli.specs.Status.{comes_first, keeps_files};
@@ -9,6 +9,7 @@ ghost use Rattle.rewrite_cli.specs.Answer.{IsAnswered, IsDone, LeavesAlone, outs
 
 use crate::counts::NO_COUNTS;
 use crate::listing::list_file;
+use crate::making::make_file;
 use crate::reply::{Reply, reply_with};
 use crate::rewriting::rewrite_file;
 use crate::run::run_file;
@@ -26,6 +27,7 @@ fn perform<S: Store, I: Source, O: Sink>(
     input: &mut I,
     out: &mut O,
 ) -> Reply
+    requires { HasSize (command_shown command) }
     ensures done { let before = outside (stored (S.files store.old) (S.faults store.old) (S.failed_saves store.old))
         (stream (I.rest input.old) (I.faults input.old)) (stream (O.written out.old) (O.faults out.old)) in
         let after = outside (stored (S.files store.new) (S.faults store.new) (S.failed_saves store.new))
@@ -44,6 +46,7 @@ fn perform<S: Store, I: Source, O: Sink>(
         Command::Unknown => reply_with(alloc, Status::Usage, &NO_COUNTS),
         Command::Loops { file } => list_file(alloc, file, store, out),
         Command::Rewrite { file, new } => rewrite_file(alloc, file, new, store),
+        Command::Make { kind, size, new } => make_file(alloc, kind, size, new, store),
         Command::Run { file, fuel, dump } => run_file(alloc, file, fuel, dump, store, input, out),
     }
 }

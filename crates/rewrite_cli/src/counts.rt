@@ -8,6 +8,8 @@ pub enum Counts {
     Steps(u64),
     /// What an image adds to its original: the loops that are divided, and the words of code.
     Image { entries: u32, words: u32 },
+    /// The bytes of a sample.
+    Sample { bytes: u64 },
     /// Nothing is counted.
     Nothing,
 }

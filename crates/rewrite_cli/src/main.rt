@@ -1,4 +1,4 @@
-//! Runs and rewrites static RV64IM executables.
+//! Lists, runs and rewrites static RV64IM executables, and makes samples of them.
 #![tactic(auto)]
 
 mod command;
@@ -7,6 +7,7 @@ mod dumping;
 pub mod laws;
 mod listing;
 mod loading;
+mod making;
 mod refusals;
 mod reply;
 mod report;

@@ -90,12 +90,20 @@ fn image_text(alloc: Global, entries: u32, words: u32) -> Result<String, AllocEr
     Ok(text)
 }
 
+// The length of a sample's file.
+fn sample_text(alloc: Global, bytes: u64) -> Result<String, AllocError>
+    ensures { IfOk result (λ s. string_bytes s ≡ line (codes "made " ++ decimal bytes)) }
+{
+    format!(in alloc; "made {bytes}\n")
+}
+
 // What is said of what a command has made.
 fn done_text(alloc: Global, counts: Counts) -> Result<String, AllocError>
     ensures { IfOk result (λ s. string_bytes s ≡ done_text counts) }
 {
     match counts {
         Counts::Image { entries, words } => image_text(alloc, entries, words),
+        Counts::Sample { bytes } => sample_text(alloc, bytes),
         _ => Ok(String::new(alloc)),
     }
 }

@@ -56,6 +56,8 @@ pub enum Reason {
     /// The file is not the image of its original part: the first byte that differs, or the shorter
     /// length where one is the beginning of the other.
     Altered { offset: u64 },
+    /// The size of a sample passes its kind's limit.
+    TooLarge { n: u64 },
 }
 
 /// What a command answers.
@@ -72,7 +74,7 @@ pub enum Status {
     Spent,
     /// The words are no command.
     Usage,
-    /// The command's file is refused.
+    /// The command's file is refused, or the size of the sample that it is to make.
     Refused(Reason),
     /// The store met a fault, or it has no file of a name that is to be loaded.
     StoreFault,

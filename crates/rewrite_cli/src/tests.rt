@@ -11,6 +11,7 @@ mod files;
 mod images;
 mod lists;
 mod runs;
+mod samples;
 
 // Writes the six bytes behind it and ends with code 0.
 static HELLO: [u32; 9] = [

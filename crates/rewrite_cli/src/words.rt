@@ -1,10 +1,15 @@
 ghost use Rattle.std.specs.Prelude.{◌≡◌, ◌≤◌, [], ◌∷◌, None, if◌then◌else◌, map, slice_index, string_bytes};
 ghost use Rattle.std.specs.Option.{option_copied};
-ghost use Rattle.rewrite_cli.specs.Words.{command_of, number_up_to, is_run_by_one, run_for};
+ghost use Rattle.rewrite_cli.specs.Words.{command_of, number_up_to, is_run_by_one, run_for, kind_of, make_of, most_size};
 ghost use Rattle.rewrite_cli.specs.Reading.{command_shown};
+
+use sample_maker::Kind;
 
 /// As many instructions as a run may be given, and has where none are named.
 pub const MOST_FUEL: u64 = 1 << 40;
+
+/// The largest size that the words of a sample may have.
+const MOST_SIZE: u64 = (1 << 63) - 1;
 
 /// What words ask for.
 #[derive(Clone, Copy)]
@@ -24,6 +29,12 @@ pub enum Command<'a> {
     /// List the loops of the executable of this name.
     Loops {
         file: &'a str,
+    },
+    /// Make the sample of this kind and size, and save it under a name.
+    Make {
+        kind: Kind,
+        size: u64,
+        new: &'a str,
     },
     /// The words are no command.
     Unknown,
@@ -77,6 +88,42 @@ fn run_from<'a>(
     }
 }
 
+// The kind of sample that a word is.
+fn kind_from(word: &str) -> Option<Kind>
+    ensures { result ≡ kind_of word.now }
+{
+    match word {
+        "vadd" => Some(Kind::Vadd),
+        "stencil" => Some(Kind::Stencil),
+        "bytemap" => Some(Kind::Bytemap),
+        _ => None,
+    }
+}
+
+// A sample of the kind and size that words say, if the words are such.
+fn make_from<'a>(kind: &str, size: &str, new: &'a str) -> Command<'a>
+    ensures { command_shown result ≡ make_of (kind_of kind.now) (number_up_to most_size size.now) new.now }
+{
+    let Some(kind) = kind_from(kind) else {
+        return Command::Unknown;
+    };
+    match number_up_to(size, MOST_SIZE) {
+        Some(size) => Command::Make { kind, size, new },
+        None => Command::Unknown,
+    }
+}
+
+// The command that four words are.
+fn long_command<'a>(verb: &str, first: &'a str, second: &str, third: &'a str) -> Command<'a>
+    ensures { command_shown result ≡ command_of (verb.now ∷ first.now ∷ second.now ∷ third.now ∷ []) }
+{
+    if verb == "make" {
+        make_from(first, second, third)
+    } else {
+        run_from(verb, first, second, third, None)
+    }
+}
+
 // The command that three words are.
 fn short_command<'a>(verb: &str, file: &'a str, third: &'a str) -> Command<'a>
     ensures { command_shown result ≡ command_of (verb.now ∷ file.now ∷ third.now ∷ []) }
@@ -114,15 +161,12 @@ pub fn command_from<'a>(words: &'a [String]) -> Command<'a>
         [_] => Command::Unknown,
         [verb, file] => list_command(verb.as_str(), file.as_str()),
         [verb, file, third] => short_command(verb.as_str(), file.as_str(), third.as_str()),
-        [verb, file, harts, fuel] => {
-            run_from(
-                verb.as_str(),
-                file.as_str(),
-                harts.as_str(),
-                fuel.as_str(),
-                None,
-            )
-        }
+        [verb, first, second, third] => long_command(
+            verb.as_str(),
+            first.as_str(),
+            second.as_str(),
+            third.as_str(),
+        ),
         [verb, file, harts, fuel, dump] => {
             let (file, dump) = (file.as_str(), dump.as_str());
             run_from(

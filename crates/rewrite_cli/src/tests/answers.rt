@@ -14,7 +14,7 @@ struct Answer {
     number: u8,
 }
 
-static ANSWERS: [Answer; 6] = [
+static ANSWERS: [Answer; 7] = [
     Answer {
         status: Status::Spent,
         counts: Counts::Steps(7),
@@ -59,6 +59,12 @@ static ANSWERS: [Answer; 6] = [
         text: "rewritten entries 4294967295 words 717\n",
         number: 0,
     },
+    Answer {
+        status: Status::Done,
+        counts: Counts::Sample { bytes: u64::MAX },
+        text: "made 18446744073709551615\n",
+        number: 0,
+    },
 ];
 
 fn check_text<R: Abort>(
@@ -86,7 +92,7 @@ fn answers_have_their_lines_and_numbers(rt: HostRuntime) -> Result<(), AllocErro
     check_answers(&rt, rt.alloc())
 }
 
-static REFUSALS: [(Reason, &str); 21] = [
+static REFUSALS: [(Reason, &str); 22] = [
     (
         Reason::TooLong { length: u64::MAX },
         "too-long 18446744073709551615",
@@ -129,6 +135,10 @@ static REFUSALS: [(Reason, &str); 21] = [
     ),
     (Reason::BadMark, "bad-mark"),
     (Reason::Altered { offset: 584 }, "altered 584"),
+    (
+        Reason::TooLarge { n: u64::MAX },
+        "too-large 18446744073709551615",
+    ),
 ];
 
 fn check_refusals<R: Abort>(rt: &R, alloc: Global) -> Result<(), AllocError> {

@@ -170,7 +170,7 @@ fn endings_are_reported(rt: HostRuntime) -> Result<(), AllocError> {
     check_endings(&rt, rt.alloc())
 }
 
-static NO_COMMANDS: [&str; 32] = [
+static NO_COMMANDS: [&str; 41] = [
     "",
     "run",
     "run file",
@@ -203,6 +203,15 @@ static NO_COMMANDS: [&str; 32] = [
     "list",
     "list file other",
     "file 1 run",
+    "make vadd 0 new",
+    "make vadd 01 new",
+    "make vadd -1 new",
+    "make vadd 9223372036854775808 new",
+    "make vector 1 new",
+    "make Vadd 1 new",
+    "make vadd 1",
+    "make vadd 1 new 1",
+    "Make vadd 1 new",
 ];
 
 // Nothing is loaded, read or written: the first call of each would fail.

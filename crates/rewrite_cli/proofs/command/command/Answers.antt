@@ -1,9 +1,13 @@
-use Rattle.std.proofs.Common.{sym, subst, Option}
+use Rattle.std.proofs.Common.{sym, subst, Option, map, string_bytes}
 use Rattle.rewrite_cli.specs.Effect.{StartsRun}
 use Rattle.rewrite_cli.specs.Reading.{text_of}
 use Rattle.rewrite_cli.specs.Words.{Command}
+use Rattle.rewrite_cli.proofs.Forms.{sized}
 use Rattle.rewrite_cli.proofs.Done.{kept_given, same_given, late_given, alone_given}
 use Rattle.rewrite_cli.proofs.command.command.Goals as goal
+
+pub perform-reply-requires : goal.perform-reply-requires
+perform-reply-requires g c = rw c.command_from-command.ensures (sized (map string_bytes c.args.words.now))
 
 pub returns-clause-answered : goal.returns-clause-answered
 returns-clause-answered g c =
