@@ -73,7 +73,7 @@ impl GuestArea {
     pub fn holds(&self, addr: u64) -> bool
         ensures { result ≡ holds_of self.now addr }
     {
-        self.low <= addr && addr < self.low + self.bytes.len() as u64
+        addr.wrapping_sub(self.low) < self.bytes.len() as u64
     }
 
     pub fn low(&self) -> u64

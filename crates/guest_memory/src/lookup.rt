@@ -80,6 +80,36 @@ pub(crate) fn peek_from(
     load_at(areas, i, addr, width)
 }
 
+// Whether an access lies in the area that answered last, as most do.
+#[inline(always)]
+fn lies_in_last(areas: &[GuestArea], last: usize, addr: u64, width: Width) -> bool
+    requires { AreasLieFrom 0 areas.now }
+    ensures { result ≡ true → IsPlace areas.now last addr width }
+{
+    if last < areas.len() && areas[last].holds(addr) {
+        addr % width.bytes() == 0
+    } else {
+        false
+    }
+}
+
+// Looks for the area in which an access lies, which is the one to be tried first from now on; or tells
+// why it lies in none.
+#[inline(never)]
+fn turn_to(areas: &[GuestArea], last: &mut usize, addr: u64, width: Width) -> Option<MemFault>
+    requires { AreasLieFrom 0 areas.now }
+    ensures place { IsNone result → IsPlace areas.now last.new addr width }
+    ensures refused { IfSome result (λ fault. IsRefused areas.now addr width fault) }
+{
+    match place_of(areas, *last, addr, width) {
+        Ok(i) => {
+            *last = i;
+            None
+        }
+        Err(fault) => Some(fault),
+    }
+}
+
 // What a load answers; the area is the one to be tried first from now on.
 #[inline(always)]
 pub(crate) fn load_from(
@@ -92,9 +122,13 @@ pub(crate) fn load_from(
     ensures answer { result ≡ load_of areas.now addr width }
     ensures fits { IfOk result (λ n. n < 256 ^ bytes_of width) }
 {
-    let i = place_of(areas, *last, addr, width)?;
-    *last = i;
-    load_at(areas, i, addr, width)
+    if lies_in_last(areas, *last, addr, width) {
+        return load_at(areas, *last, addr, width);
+    }
+    match turn_to(areas, last, addr, width) {
+        None => load_at(areas, *last, addr, width),
+        Some(fault) => Err(fault),
+    }
 }
 
 // What a load from an area answers.
@@ -148,8 +182,30 @@ pub(crate) fn store_to(
     ensures after { areas.new ≡ after_store areas.old addr width value }
     ensures lie { AreasLieFrom 0 areas.new }
 {
-    let i = place_of(areas, *last, addr, width)?;
-    *last = i;
+    if lies_in_last(areas, *last, addr, width) {
+        return store_at(areas, *last, addr, width, value);
+    }
+    match turn_to(areas, last, addr, width) {
+        None => store_at(areas, *last, addr, width, value),
+        Some(fault) => Err(fault),
+    }
+}
+
+// Makes a store into an area, where it is not refused.
+#[inline(always)]
+fn store_at(
+    areas: &mut [GuestArea],
+    i: usize,
+    addr: u64,
+    width: Width,
+    value: u64,
+) -> Result<(), MemFault>
+    requires lie { AreasLieFrom 0 areas.old }
+    requires place { IsPlace areas.old i addr width }
+    ensures answer { result ≡ store_of areas.old addr width }
+    ensures after { areas.new ≡ after_store areas.old addr width value }
+    ensures lie { AreasLieFrom 0 areas.new }
+{
     if !areas[i].is_writable() {
         return Err(MemFault::Denied);
     }

@@ -2,9 +2,13 @@
 #![tactic(auto)]
 
 mod arithmetic;
+mod decoded;
 mod execution;
+mod mnemonic;
 #[cfg(test)]
 mod tests;
 
-pub use execution::exec;
+pub use decoded::Decoded;
+pub use execution::{exec, exec_decoded};
+pub use mnemonic::Mnemonic;
 pub use rv64_decode::{Fault, Next};

@@ -5,7 +5,7 @@ ghost use Rattle.std.specs.Prelude.{◌≡◌, [], Some};
 ghost use Rattle.rv64_decode.specs.Area.{why, readable_of};
 
 use crate::arithmetic::{alu, alu_imm, extended};
-use crate::{Fault, Next, exec};
+use crate::{Decoded, Fault, Next, exec, exec_decoded};
 use rv64_decode::{
     AluOp, BranchOp, ImmOp, Instr, LoadOp, MemFault, Reg, Regs, StoreOp, UpperOp, Width, Words,
 };
@@ -322,6 +322,16 @@ fn the_next_instruction_follows(rt: HostRuntime) {
     let next = at(PC, &Instr::Fence { rd, rs1, imm }, &mut regs);
     assert_eq!(rt; next, Next::At(PC + 4));
     assert_eq!(rt; regs.get(reg(5)), u64::MAX);
+}
+
+#[test]
+fn decoded_instructions_are_executed(rt: HostRuntime) {
+    let mut regs = registers();
+    let (op, rd, rs1, rs2) = (AluOp::Add, reg(5), reg(1), reg(2));
+    let add = Decoded::new(Instr::Alu { op, rd, rs1, rs2 });
+    let next = exec_decoded(&add, PC, &mut regs, &mut Nowhere);
+    assert_eq!(rt; next, Next::At(PC + 4));
+    assert_eq!(rt; regs.get(reg(5)), 1);
 }
 
 #[test]

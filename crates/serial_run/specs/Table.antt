@@ -2,7 +2,7 @@
 use Rattle.std.specs.Prelude.{ℕ, ◌≡◌, List, All, Some, None}
 use Rattle.rv64_decode.specs.Area.{Area}
 use Rattle.rv64_decode.specs.Fetched.{instr_at}
-use Rattle.rv64_decode.specs.declared.instr.Instr.{Instr}
+use Rattle.rv64_meaning.specs.Mnemonics.{instr_of}
 use Rattle.serial_run.specs.Serial.{State, ended, step, with_ending}
 use Rattle.serial_run.specs.declared.machine.End.{End}
 use Rattle.serial_run.specs.declared.machine.End.TheVariants.{Faulted}
@@ -21,7 +21,7 @@ pub record EndsAt (m : List Area) (pc : ℕ) (end : End) : Type 0 where
 
 -- an entry has the instruction of its address
 pub record IsEntryOf (m : List Area) (e : Entry) : Type 0 where
-  pub is : instr_at m e.at ≡ Some e.instr
+  pub is : instr_at m e.at ≡ Some (instr_of e.decoded)
 
 -- each entry does
 abbrev pub IsTableOf : List Area → List Entry → Type 0

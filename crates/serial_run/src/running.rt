@@ -3,17 +3,18 @@ ghost use Rattle.elf_image.specs.Layout.{IsLoadable};
 ghost use Rattle.serial_run.specs.Serial.{State, start_machine, after_call, after_instr, step, executed_of};
 ghost use Rattle.guest_memory.specs.Layout.{KeepAreas};
 ghost use Rattle.rv64_decode.specs.Fetched.{instr_at};
+ghost use Rattle.rv64_meaning.specs.Mnemonics.{instr_of};
 ghost use Rattle.serial_run.specs.Runs.{is_port_fault, configuration_of, call_at, Keeps, Acts, Runs};
 ghost use Rattle.serial_run.specs.Runs.{CallsNumber, DoesCall, StandsAtCall, TellsReads, NeverCalls};
 
 use crate::machine::{End, Machine, end_at};
-use crate::table::{Entry, PLACES, find_instr, instr_from};
+use crate::table::{Entry, PLACES, decoded_from, decoded_in, find_instr};
 use elf_image::Elf;
 use guest_calls::{Brk, Going, PortFault, call};
 use guest_memory::{HEAP_SIZE, areas_stay, build, heap_start};
 use outside_ports::{Sink, Source};
-use rv64_decode::{Instr, Reg, Regs};
-use rv64_meaning::{Next, exec};
+use rv64_decode::{Reg, Regs};
+use rv64_meaning::{Decoded, Next, exec_decoded};
 use std::alloc::{AllocError, Global};
 
 /// The stack pointer at the start.
@@ -68,12 +69,12 @@ fn answer_call<I: Source, O: Sink>(m: &mut Machine, input: &mut I, out: &mut O)
 fn execute<I: Source, O: Sink>(
     m: &mut Machine,
     pc: u64,
-    i: Instr,
+    d: &Decoded,
     input: &mut I,
     out: &mut O,
 ) -> Option<u64>
     requires { m.old.ended ≡ None }
-    ensures acts { Acts (DoesCall i) (λ s. after_instr s i)
+    ensures acts { Acts (DoesCall (instr_of d.now)) (λ s. after_instr s (instr_of d.now))
         (configuration_of (record m.old { pc = pc })
         (I.rest input.old) (I.faults input.old) (O.written out.old) (O.faults out.old))
         (configuration_of (record m.new { pc = unwrap_or result m.new.pc })
@@ -85,12 +86,12 @@ fn execute<I: Source, O: Sink>(
         (I.rest input.new) (I.faults input.new) (O.written out.new) (O.faults out.new)) }
     ensures ended { is_none result ≡ is_some m.new.ended }
     ensures areas { KeepAreas m.old.memory m.new.memory }
-    ensures takes_nothing { ¬ DoesCall i 63 m.old → input.new ≡ input.old }
-    ensures sends_nothing { ¬ DoesCall i 64 m.old → out.new ≡ out.old }
+    ensures takes_nothing { ¬ DoesCall (instr_of d.now) 63 m.old → input.new ≡ input.old }
+    ensures sends_nothing { ¬ DoesCall (instr_of d.now) 64 m.old → out.new ≡ out.old }
 {
     areas_stay();
     m.memory.lies();
-    match exec(i, pc, &mut m.regs, &mut m.memory) {
+    match exec_decoded(d, pc, &mut m.regs, &mut m.memory) {
         Next::At(next) => Some(next),
         Next::Call => {
             m.pc = pc;
@@ -119,9 +120,9 @@ fn advance<I: Source, O: Sink>(m: &mut Machine, input: &mut I, out: &mut O)
 {
     areas_stay();
     m.memory.lies();
-    match instr_from(&m.memory, m.pc) {
+    match decoded_from(&m.memory, m.pc) {
         Err(end) => end_at(m, m.pc, end),
-        Ok(i) => if let Some(next) = execute(m, m.pc, i, input, out) {
+        Ok(d) => if let Some(next) = execute(m, m.pc, &d, input, out) {
             m.pc = next;
         },
     }
@@ -168,13 +169,13 @@ pub struct Ran {
 // them, and counts them. Words are decoded once, into a table by their address.
 fn run_from<I: Source, O: Sink>(
     m: &mut Machine,
-    first: Instr,
+    first: Decoded,
     fuel: u64,
     input: &mut I,
     out: &mut O,
 ) -> Ran
     requires running { m.old.ended ≡ None }
-    requires first { instr_at m.old.memory m.old.pc ≡ Some first }
+    requires first { instr_at m.old.memory m.old.pc ≡ Some (instr_of first) }
     ensures end { result.end ≡ unwrap_or m.new.ended End.Spent }
     ensures steps { (s : State) → m.old ≡ s.machine → TellsReads fuel s (I.rest input.old)
         → is_port_fault m.new.ended ≡ false → result.steps ≡ executed_of fuel s }
@@ -195,14 +196,15 @@ fn run_from<I: Source, O: Sink>(
     let mut end = End::Spent;
     let mut table = [Entry {
         at: pc,
-        instr: first,
+        decoded: first,
     }; PLACES];
     for k in 0..fuel {
-        let Some(instr) = find_instr(&m.memory, &mut table, pc, &mut end) else {
+        if !find_instr(&m.memory, &mut table, pc, &mut end) {
             end_at(m, pc, end);
             return Ran { end, steps: k + 1 };
-        };
-        match execute(m, pc, instr, input, out) {
+        }
+        let decoded = decoded_in(&m.memory, &table, pc);
+        match execute(m, pc, decoded, input, out) {
             Some(next) => pc = next,
             None => return Ran {
                 end: m.ended.unwrap_or(End::Spent),
@@ -258,7 +260,7 @@ pub fn run_counted<I: Source, O: Sink>(
             steps: 0,
         };
     }
-    match instr_from(&m.memory, m.pc) {
+    match decoded_from(&m.memory, m.pc) {
         Ok(first) => run_from(m, first, fuel, input, out),
         Err(end) => {
             end_at(m, m.pc, end);

@@ -1,11 +1,13 @@
-ghost use Rattle.std.specs.Prelude.{◌≡◌, ◌/◌, ◌%◌, ℕ, length, slice_index_or, true, false, Some, IfOk, IfErr, IfSome, IsNone};
+ghost use Rattle.std.specs.Prelude.{◌≡◌, ◌/◌, ◌%◌, ℕ, length, slice_index_or, true, false, Some, IfOk, IfErr};
 ghost use Rattle.rv64_decode.specs.Fetched.{instr_at};
+ghost use Rattle.rv64_meaning.specs.Mnemonics.{instr_of};
 ghost use Rattle.serial_run.specs.Table.{EndsAt, IsTableOf};
 ghost use Rattle.serial_run.specs.declared.table.Entry.{Entry as Shown};
 
 use crate::machine::End;
 use guest_memory::Memory;
-use rv64_decode::{Fault, Instr, decode};
+use rv64_decode::{Fault, decode};
+use rv64_meaning::Decoded;
 
 /// How many places a table of decoded instructions has. An instruction has one place, by its address.
 pub(crate) const PLACES: usize = 4096;
@@ -15,7 +17,7 @@ pub(crate) const PLACES: usize = 4096;
 #[derive(Clone, Copy)]
 pub(crate) struct Entry {
     pub at: u64,
-    pub instr: Instr,
+    pub decoded: Decoded,
 }
 
 // The place of an address.
@@ -28,8 +30,8 @@ fn place_of(addr: u64) -> usize
 
 /// The instruction at an address, or the ending where none is to be executed there.
 #[tactic(auto, unfolding(crate::specs::Serial::step))]
-pub(crate) fn instr_from(memory: &Memory, pc: u64) -> Result<Instr, End>
-    ensures instr { IfOk result (λ i. instr_at memory.now pc ≡ Some i) }
+pub(crate) fn decoded_from(memory: &Memory, pc: u64) -> Result<Decoded, End>
+    ensures instr { IfOk result (λ d. instr_at memory.now pc ≡ Some (instr_of d)) }
     ensures ends { IfErr result (EndsAt memory.now pc) }
 {
     match memory.fetch(pc) {
@@ -44,7 +46,7 @@ pub(crate) fn instr_from(memory: &Memory, pc: u64) -> Result<Instr, End>
                 pc,
                 addr: word as u64,
             }),
-            Some(i) => Ok(i),
+            Some(i) => Ok(Decoded::new(i)),
         },
     }
 }
@@ -59,9 +61,9 @@ fn refill(memory: &Memory, table: &mut [Entry], pc: u64, end: &mut End) -> bool
     ensures entry { result ≡ true → (d : Shown) → (slice_index_or table.new (pc / 4 % 4096) d).at ≡ pc }
     ensures ends { result ≡ false → EndsAt memory.now pc end.new }
 {
-    match instr_from(memory, pc) {
-        Ok(instr) => {
-            table[place_of(pc)] = Entry { at: pc, instr };
+    match decoded_from(memory, pc) {
+        Ok(decoded) => {
+            table[place_of(pc)] = Entry { at: pc, decoded };
             true
         }
         Err(why) => {
@@ -71,28 +73,26 @@ fn refill(memory: &Memory, table: &mut [Entry], pc: u64, end: &mut End) -> bool
     }
 }
 
-/// The instruction at an address, by a table of the memory's instructions, which has it then; where
-/// there is none, `end` is the ending.
+/// Whether there is an instruction at an address, which has its place in the table of the memory's
+/// instructions then; where there is none, `end` is the ending.
 #[inline(always)]
-pub(crate) fn find_instr(
-    memory: &Memory,
-    table: &mut [Entry],
-    pc: u64,
-    end: &mut End,
-) -> Option<Instr>
+pub(crate) fn find_instr(memory: &Memory, table: &mut [Entry], pc: u64, end: &mut End) -> bool
     requires places { length table.old ≡ 4096 }
     requires table { IsTableOf memory.now table.old }
     ensures table { IsTableOf memory.now table.new }
-    ensures instr { IfSome result (λ i. instr_at memory.now pc ≡ Some i) }
-    ensures ends { IsNone result → EndsAt memory.now pc end.new }
+    ensures entry { result ≡ true → (d : Shown) → (slice_index_or table.new (pc / 4 % 4096) d).at ≡ pc }
+    ensures ends { result ≡ false → EndsAt memory.now pc end.new }
 {
-    let place = place_of(pc);
-    if table[place].at == pc {
-        return Some(table[place].instr);
-    }
-    if refill(memory, table, pc, end) {
-        Some(table[place].instr)
-    } else {
-        None
-    }
+    table[place_of(pc)].at == pc || refill(memory, table, pc, end)
+}
+
+/// The instruction of an address, which has its place in the table.
+#[inline(always)]
+pub(crate) fn decoded_in<'a>(memory: &Memory, table: &'a [Entry], pc: u64) -> &'a Decoded
+    requires places { length table.now ≡ 4096 }
+    requires table { IsTableOf memory.now table.now }
+    requires entry { (d : Shown) → (slice_index_or table.now (pc / 4 % 4096) d).at ≡ pc }
+    ensures { instr_at memory.now pc ≡ Some (instr_of result.now) }
+{
+    &table[place_of(pc)].decoded
 }

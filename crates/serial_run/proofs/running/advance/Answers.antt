@@ -1,3 +1,4 @@
+use Rattle.rv64_meaning.specs.Mnemonics.{instr_of}
 use Rattle.std.proofs.Common.{subst, sym}
 use Rattle.serial_run.specs.Runs.{StandsAtCall, Acts, Keeps, configuration_of}
 use Rattle.serial_run.specs.Serial.{step}
@@ -18,15 +19,15 @@ returns-in-Err-clause-keeps g c =
     subst P (sym c.end_at.ensures) (keeps_end m _ _ _ _ c.in-Err.end c.in-Err.ensures.ends.fault)
 
 pub returns-in-Some-clause-acts : goal.returns-in-Some-clause-acts
-returns-in-Some-clause-acts g c = acts_as c.in-Ok.i _ _ c.requires c.in-Ok.ensures.instr c.lies.ensures c.in-Some.ensures.areas c.in-Some.ensures.acts
+returns-in-Some-clause-acts g c = acts_as (instr_of c.in-Ok.d) _ _ c.requires c.in-Ok.ensures.instr c.lies.ensures c.in-Some.ensures.areas c.in-Some.ensures.acts
 
 pub returns-in_default-clause-acts : goal.returns-in_default-clause-acts
-returns-in_default-clause-acts g c = acts_as c.in-Ok.i _ _ c.requires c.in-Ok.ensures.instr c.lies.ensures c.in_default.ensures.areas c.in_default.ensures.acts
+returns-in_default-clause-acts g c = acts_as (instr_of c.in-Ok.d) _ _ c.requires c.in-Ok.ensures.instr c.lies.ensures c.in_default.ensures.areas c.in_default.ensures.acts
 
 pub returns-in-Some-clause-takes_nothing : goal.returns-in-Some-clause-takes_nothing
 returns-in-Some-clause-takes_nothing g c = λ never.
-    c.in-Some.ensures.takes_nothing (λ h. never (stands c.args.m.now c.in-Ok.i 63 c.in-Ok.ensures.instr h))
+    c.in-Some.ensures.takes_nothing (λ h. never (stands c.args.m.now (instr_of c.in-Ok.d) 63 c.in-Ok.ensures.instr h))
 
 pub returns-in_default-clause-takes_nothing : goal.returns-in_default-clause-takes_nothing
 returns-in_default-clause-takes_nothing g c = λ never.
-    c.in_default.ensures.takes_nothing (λ h. never (stands c.args.m.now c.in-Ok.i 63 c.in-Ok.ensures.instr h))
+    c.in_default.ensures.takes_nothing (λ h. never (stands c.args.m.now (instr_of c.in-Ok.d) 63 c.in-Ok.ensures.instr h))
