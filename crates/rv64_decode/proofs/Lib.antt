@@ -3,3 +3,4 @@ pub mod Decodes
 pub mod Faults
 pub mod Fields
 pub mod Sound
+pub mod XDecodes

@@ -8,3 +8,7 @@ pub mod Fetched
 pub mod Form
 pub mod Row
 pub mod Range
+pub mod XTable
+pub mod XForm
+pub mod Aim
+pub mod Hart

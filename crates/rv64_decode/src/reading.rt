@@ -55,19 +55,19 @@ fn j_immediate(word: u32) -> i32
     )
 }
 
-fn rd(word: u32) -> Reg
+pub(crate) fn rd(word: u32) -> Reg
     ensures { result ≡ rd_of word }
 {
     Reg::new(((word >> 7) % 32) as u8)
 }
 
-fn rs1(word: u32) -> Reg
+pub(crate) fn rs1(word: u32) -> Reg
     ensures { result ≡ rs1_of word }
 {
     Reg::new(((word >> 15) % 32) as u8)
 }
 
-fn rs2(word: u32) -> Reg
+pub(crate) fn rs2(word: u32) -> Reg
     ensures { result ≡ rs2_of word }
 {
     Reg::new(((word >> 20) % 32) as u8)

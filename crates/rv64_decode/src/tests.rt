@@ -1,7 +1,10 @@
 // Words from outside: the tables hold what GNU as makes of the instructions beside them
 // (bench/instruction_words.py), and the other words stand by the manual's listings.
 
-use crate::{AluOp, BranchOp, ImmOp, Instr, LoadOp, Reg, Regs, StoreOp, UpperOp, decode, encode};
+use crate::{
+    AluOp, BranchOp, ImmOp, Instr, LoadOp, Reg, Regs, StoreOp, UpperOp, XInstr, decode, decode_x,
+    encode, encode_x,
+};
 use std::process::Abort;
 
 const ALU: [(u32, AluOp, u8, u8, u8); 30] = [
@@ -151,6 +154,12 @@ fn reg(number: u8) -> Reg {
 fn agree(rt: &impl Abort, word: u32, i: &Instr) {
     assert_eq!(rt; decode(word), Some(*i), "of {word:08x}");
     assert_eq!(rt; encode(*i), Some(word), "of {i:?}");
+    agree_in_added_code(rt, word, XInstr::Base(*i));
+}
+
+fn agree_in_added_code(rt: &impl Abort, word: u32, i: XInstr) {
+    assert_eq!(rt; decode_x(word), Some(i), "of {word:08x}");
+    assert_eq!(rt; encode_x(i), Some(word), "of {i:?}");
 }
 
 #[test]

@@ -8,10 +8,10 @@ use crate::instr::{AluOp, BranchOp, ImmOp, Instr, LoadOp, StoreOp, UpperOp};
 use crate::registers::Reg;
 
 // The opcode and both function numbers of an instruction.
-struct FullCode {
-    opcode: u32,
-    three: u32,
-    seven: u32,
+pub(crate) struct FullCode {
+    pub(crate) opcode: u32,
+    pub(crate) three: u32,
+    pub(crate) seven: u32,
 }
 
 // The opcode and the first function number of an instruction.
@@ -63,7 +63,7 @@ fn alu_code(op: AluOp) -> FullCode
 }
 
 /// The only word with these fields.
-fn r_word(code: FullCode, rd: Reg, rs1: Reg, rs2: Reg) -> u32
+pub(crate) fn r_word(code: FullCode, rd: Reg, rs1: Reg, rs2: Reg) -> u32
     requires small { (code.opcode < 2 ^ 7) × (code.three < 2 ^ 3) × (code.seven < 2 ^ 7) }
     ensures { (w : ℕ) → w < 2 ^ 32 → (w ≡ result)
         ↔ (IsR code.opcode code.three code.seven w × (rd_of w ≡ rd) × (rs1_of w ≡ rs1) × (rs2_of w ≡ rs2)) }
@@ -122,7 +122,7 @@ fn b_word(op: u32, three: u32, rs1: Reg, rs2: Reg, imm: i32) -> u32
 }
 
 /// The only word of the form J with these fields.
-fn j_word(op: u32, rd: Reg, imm: i32) -> u32
+pub(crate) fn j_word(op: u32, rd: Reg, imm: i32) -> u32
     requires small { op < 2 ^ 7 }
     requires low { negsuc 0xF_FFFF ≤ℤ imm }
     requires high { imm ≤ℤ pos 0xF_FFFF }
