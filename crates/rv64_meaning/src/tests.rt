@@ -3,11 +3,13 @@
 
 ghost use Rattle.std.specs.Prelude.{◌≡◌, [], Some};
 ghost use Rattle.rv64_decode.specs.Area.{why, readable_of};
+ghost use Rattle.rv64_decode.specs.XForm.{HasSlot};
 
 use crate::arithmetic::{alu, alu_imm, extended};
-use crate::{Decoded, Fault, Next, exec, exec_decoded};
+use crate::{Decoded, Fault, Next, XNext, exec, exec_decoded, exec_x};
 use rv64_decode::{
     AluOp, BranchOp, ImmOp, Instr, LoadOp, MemFault, Reg, Regs, StoreOp, UpperOp, Width, Words,
+    XInstr,
 };
 
 const EDGES: [u64; 20] = [
@@ -445,4 +447,79 @@ fn refused_accesses_and_calls(rt: HostRuntime) {
         at(PC, &Instr::Ebreak, &mut regs),
         Next::Fault { kind, addr: PC }
     );
+}
+
+// On hart 2 of 5.
+fn added_at(pc: u64, i: &XInstr, regs: &mut Regs, slots: &mut [u64; 32]) -> XNext
+    requires { HasSlot i.now }
+{
+    exec_x(*i, pc, regs, slots, 2, 5, &mut Nowhere)
+}
+
+#[test]
+fn added_instructions_of_one_hart(rt: HostRuntime) {
+    let next = XNext::Own(Next::At(PC + 4));
+    let mut regs = registers();
+    let mut slots = [7; 32];
+    let put = XInstr::Put {
+        slot: 31,
+        rs1: reg(2),
+    };
+    assert_eq!(rt; added_at(PC, &put, &mut regs, &mut slots), next);
+    assert_eq!(rt; slots[31], 2);
+    assert_eq!(rt; slots[30], 7);
+    let get = XInstr::Get {
+        rd: reg(5),
+        slot: 31,
+    };
+    assert_eq!(rt; added_at(PC, &get, &mut regs, &mut slots), next);
+    assert_eq!(rt; regs.get(reg(5)), 2);
+    let id = XInstr::Id { rd: reg(5) };
+    slots[31] = 9;
+    assert_eq!(rt;
+        added_at(u64::MAX - 3, &id, &mut regs, &mut slots),
+        XNext::Own(Next::At(0))
+    );
+    assert_eq!(rt; regs.get(reg(5)), 2);
+    let harts = XInstr::Harts { rd: reg(6) };
+    assert_eq!(rt; added_at(PC, &harts, &mut regs, &mut slots), next);
+    assert_eq!(rt; regs.get(reg(6)), 5);
+    let none = XInstr::Harts { rd: reg(0) };
+    assert_eq!(rt; added_at(PC, &none, &mut regs, &mut slots), next);
+    assert_eq!(rt; regs.get(reg(0)), 0);
+}
+
+#[test]
+fn base_instructions_of_added_code(rt: HostRuntime) {
+    let mut regs = registers();
+    let mut slots = [7; 32];
+    let (op, rd, rs1, imm) = (ImmOp::Addi, reg(5), reg(2), -3);
+    let add = XInstr::Base(Instr::AluImm { op, rd, rs1, imm });
+    let next = added_at(PC, &add, &mut regs, &mut slots);
+    assert_eq!(rt; next, XNext::Own(Next::At(PC + 4)));
+    assert_eq!(rt; regs.get(reg(5)), u64::MAX);
+    let ecall = XInstr::Base(Instr::Ecall);
+    let next = added_at(PC, &ecall, &mut regs, &mut slots);
+    assert_eq!(rt; next, XNext::Own(Next::Call));
+    let (op, rd, rs1, imm) = (LoadOp::Lw, reg(2), reg(2), 2);
+    let load = XInstr::Base(Instr::Load { op, rd, rs1, imm });
+    let kind = Fault::Load(MemFault::Unmapped);
+    let next = added_at(PC, &load, &mut regs, &mut slots);
+    assert_eq!(rt; next, XNext::Own(Next::Fault { kind, addr: 4 }));
+    assert_eq!(rt; slots, [7; 32]);
+}
+
+#[test]
+fn instructions_of_several_harts_change_nothing(rt: HostRuntime) {
+    for i in [XInstr::Par, XInstr::Join, XInstr::Back] {
+        let mut regs = registers();
+        let mut slots = [7; 32];
+        assert_eq!(rt;
+            added_at(PC, &i, &mut regs, &mut slots),
+            XNext::Shared,
+            "of {i:?}"
+        );
+        assert_eq!(rt; regs, registers());
+        assert_eq!(rt; slots, [7; 32]);
+    }
 }
