@@ -3,3 +3,4 @@ pub mod Areas
 pub mod Layout
 pub mod Spans
 pub mod Words
+pub mod WholeAreas

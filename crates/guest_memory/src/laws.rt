@@ -4,6 +4,7 @@ ghost use Rattle.rv64_decode.specs.Ask.{Ask, after};
 ghost use Rattle.rv64_decode.specs.Range.{AreBytes};
 ghost use Rattle.guest_memory.specs.Layout.{AreasLieFrom, KeepAreas};
 ghost use Rattle.guest_memory.specs.Spans.{all_permitted, with_bytes_at};
+ghost use Rattle.guest_memory.specs.WholeAreas.{LoadedLaw, WholeLaw, AlignedLaw};
 
 /// Whatever is written to a memory where it may be, its areas and their permissions stay, and the
 /// bytes of areas that may not be written, as those of code.
@@ -18,4 +19,12 @@ pub fn areas_stay()
     ensures lie { (m n : List Area) → AreasLieFrom 0 m → KeepAreas m n → AreasLieFrom 0 n }
     ensures code { (m n : List Area) (addr : ℕ) → AreasLieFrom 0 m → KeepAreas m n
         → fetch_of n addr ≡ fetch_of m addr }
+{}
+
+/// The areas that an executable starts with, and all that lie as they do, begin and end at multiples of 8. So the area
+/// in which an aligned access begins has all of its bytes.
+pub fn areas_are_whole()
+    ensures loaded { LoadedLaw }
+    ensures whole { WholeLaw }
+    ensures aligned { AlignedLaw }
 {}
