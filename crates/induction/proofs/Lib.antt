@@ -6,3 +6,4 @@ pub mod Outcomes
 pub mod WordLists
 pub mod RowClasses
 pub mod NestClasses
+pub mod OneClass

@@ -4,3 +4,4 @@ pub mod Writers
 pub mod Words
 pub mod Rows
 pub mod Results
+pub mod OneClass

@@ -75,8 +75,8 @@ abbrev pub IsNotPrivateAt : Words → ℕ → Type 0
 IsNotPrivateAt w r = (has_bit w.always r ≡ false) ⊎ IsReadFirst w.flow w.masks.items r
 
 -- the words of the loop l of the nest N, with facts of the pass over it
-pub record IsLoopOf (G : Graph) (C : CellMap) (levels : List Level) (N : Nest) (l : Level) (V : ℕ → ℕ → Option Fact) (w : Words)
-    : Type 0 where
+pub record IsLoopOf (G : Graph) (C : CellMap) (levels : List Level) (N : Nest) (l : Level)
+    (V : ℕ → ℕ → Option Fact) (w : Words) : Type 0 where
   pub nest : AreNest G levels
   pub of : IsNestOf G levels N
   pub among : Among N l

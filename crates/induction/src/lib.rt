@@ -3,6 +3,7 @@
 //! it from turn to turn.
 #![tactic(auto)]
 
+pub mod laws;
 mod masks;
 mod moves;
 mod nest;

@@ -1,16 +1,18 @@
-ghost use Rattle.std.specs.Prelude.{◌≡◌, ◌<◌, length};
+ghost use Rattle.std.specs.Prelude.{◌≡◌, ◌<◌, ◌==◌, ◌&&◌, length};
 ghost use Rattle.std.specs.List.{All};
 ghost use Rattle.std.specs.List.Sorted.{IsStrictlyIncreasing};
 ghost use Rattle.linear_forms.specs.Forms.{is_small};
-ghost use Rattle.loop_data.specs.Lookups.{fact_of};
+ghost use Rattle.linear_forms.specs.Locations.{number_of};
+ghost use Rattle.loop_data.specs.Lookups.{is_named, fact_of};
 ghost use Rattle.induction.specs.Words.{AreSized, step_in, step_at, is_round_in, deeper, step_by, step_of_place};
 ghost use Rattle.induction.specs.Writers.{AreWriters};
 
 use crate::masks::contains;
 use crate::words::Words;
 use crate::writers::Writers;
+use linear_forms::Loc;
 use loop_data::flow::is_in;
-use loop_data::value_rows::value_after;
+use loop_data::value_rows::{is_named, value_after};
 use loop_data::{Level, Value};
 
 /// One more than the greatest step.
@@ -23,6 +25,13 @@ fn is_step(number: i64) -> bool
     -LIMIT < number && number < LIMIT
 }
 
+/// Whether a name is that of the location with this number.
+fn is_numbered(loc: Loc, r: usize) -> bool
+    ensures { result ≡ (is_named loc && (number_of loc == r)) }
+{
+    is_named(loc) && loc.number() == r
+}
+
 /// By how much a location moves on, if this is what is written to it.
 fn step_of(value: Value, r: usize) -> Option<i64>
     ensures { result ≡ step_in (fact_of value) r }
@@ -30,7 +39,7 @@ fn step_of(value: Value, r: usize) -> Option<i64>
     match value {
         Value::Base(loc, n) => {
             let step = n.cast_signed();
-            if loc.number() == r && is_step(step) {
+            if is_numbered(loc, r) && is_step(step) {
                 Some(step)
             } else {
                 None

@@ -9,6 +9,7 @@ pub mod FlowRows
 pub mod FlowOrders
 pub mod FlowEdges
 pub mod ValueFills
+pub mod NamedFacts
 pub mod ValuePlaces
 pub mod FactUnique
 pub mod Agreement
@@ -29,3 +30,6 @@ pub mod FactForms
 pub mod FactWords
 pub mod FactWalks
 pub mod Effects
+pub mod Least
+pub mod OnePlace
+pub mod Keys

@@ -106,19 +106,14 @@ no_cell_at [] k l = refl
 no_cell_at (x ∷ xs) zero l = absurd (omega arith)
 no_cell_at (x ∷ xs) (suc k) l = no_cell_at xs k (omega arith)
 
-abbrev by_cell : (b : Bool) → ℕ → Option Fact
+abbrev pub by_cell : (b : Bool) → ℕ → Option Fact
 by_cell b r = if b then Some (Offset r (pos 0)) else None
 
-header_by : (c : Cells) (r : ℕ) → 32 ≤ r → header_fact (record { instr = λ u. None; cells = cell_map c }) r ≡ by_cell (is_some (cell_at c.list.items (r - 32))) r
+pub header_by : (c : Cells) (r : ℕ) → 32 ≤ r → header_fact (record { instr = λ u. None; cells = cell_map c }) r ≡ by_cell (is_some (cell_at c.list.items (r - 32))) r
 header_by c r h =
     let a : (r == 0) ≡ false = is_ne r 0 (λ e. omega arith) in
     let b : nat_lt r 32 ≡ false = grind (arith, nat_tests) in
     rw a (rw b refl)
-
-pub header_of_cell : (c : Cells) (r : ℕ) → 32 ≤ r → r - 32 < length c.list.items → Some (Offset (32 + (r - 32)) (pos 0)) ≡ header_fact (record { instr = λ u. None; cells = cell_map c }) r
-header_of_cell c r h l =
-    let e : 32 + (r - 32) ≡ r = omega arith in
-    ap (λ q. Some (Offset q (pos 0))) e ∙ sym (header_by c r h ∙ ap (λ b. by_cell b r) (some_cell c.list.items (r - 32) l))
 
 pub header_of_none : (c : Cells) (r : ℕ) → 32 ≤ r → length c.list.items ≤ r - 32 → None ≡ header_fact (record { instr = λ u. None; cells = cell_map c }) r
 header_of_none c r h l = sym (header_by c r h ∙ ap (λ b. by_cell b r) (no_cell_at c.list.items (r - 32) l))

@@ -1,9 +1,11 @@
 -- What the results of the analysis say of an address and a location.
-use Rattle.std.specs.Prelude.{ℕ, ◌≡◌, ◌==◌, ◌<◌, ◌≤◌, Bool, true, false, nat_lt, if◌then◌else◌, List, [], ◌∷◌, length, map, Option, Some, None, slice_index_or}
+use Rattle.std.specs.Prelude.{ℕ, ℤ, ◌≡◌, ◌==◌, ◌<◌, ◌≤◌, ◌&&◌, Bool, true, false, nat_le, nat_lt, if◌then◌else◌, List, [], ◌∷◌, length, map, Option, Some, None, slice_index_or}
 use Rattle.std.specs.List.{All}
 use Rattle.std.specs.List.Sorted.{IsStrictlyIncreasing}
 use Rattle.rv64_decode.specs.Row.{signed64}
 use Rattle.linear_forms.specs.Forms.{LinearForm}
+use Rattle.linear_forms.specs.declared.location.Loc.{Loc}
+use Rattle.linear_forms.specs.declared.location.Loc.TheVariants.{Reg, Cell}
 use Rattle.linear_forms.specs.Locations.{number_of}
 use Rattle.loop_data.specs.declared.cells.Cells.{Cells}
 use Rattle.loop_data.specs.declared.classes.Class.{Class}
@@ -38,10 +40,19 @@ pub record AreFew (C : CellMap) : Type 0 where
   pub cells : (k : ℕ) → 16 ≤ k → cell_at C.cells k ≡ None
   pub uses : (u k : ℕ) → C.uses u ≡ Some k → k < 16
 
--- the fact that a value stands for
+-- the name of a register but x0, or of one of at most 16 cells: each location has one such name
+abbrev pub is_named : Loc → Bool
+is_named (Reg r) = nat_le 1 r && nat_lt r 32
+is_named (Cell k) = nat_lt k 16
+
+-- a number from the header's value of the location of this name, if it is one
+abbrev pub offset_from : Loc → ℤ → Option Fact
+offset_from loc z = if is_named loc then Some (Offset (number_of loc) z) else None
+
+-- the fact that a value stands for; over anything that is no location's name it stands for none
 abbrev pub fact_of : Value → Option Fact
 fact_of (Known n) = Some (Number (signed64 n))
-fact_of (Base loc n) = Some (Offset (number_of loc) (signed64 n))
+fact_of (Base loc n) = offset_from loc (signed64 n)
 fact_of Nothing = None
 
 -- what is known of a location; locations have numbers below 48

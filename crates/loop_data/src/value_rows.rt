@@ -1,10 +1,9 @@
 ghost use Rattle.std.specs.Prelude.{ℕ, ◌≡◌, ◌==◌, ◌&&◌, ◌+◌, ◌<◌, ◌≤◌, ◌↔◌, ◌^◌, ◌+ℤ◌, ◌-ℤ◌, ◌*ℤ◌, ℤ, pos, Some, None, true, false, IsTrue};
 ghost use Rattle.rv64_decode.specs.Row.{signed32, signed64};
 ghost use Rattle.linear_forms.specs.Forms.{constant_fits};
-ghost use Rattle.linear_forms.specs.Locations.{number_of};
-ghost use Rattle.loop_data.specs.Facts.{Fact, Number, Offset, ranged, short_of, fact_read, fact_sum, fact_difference, fact_short, fact_shifted, alu_fact, imm_fact, upper_fact, cell_fact, register_fact, store_fact, stored_fact, fact_past};
+ghost use Rattle.loop_data.specs.Facts.{Fact, Number, ranged, short_of, fact_read, fact_sum, fact_difference, fact_short, fact_shifted, alu_fact, imm_fact, upper_fact, cell_fact, register_fact, store_fact, stored_fact, fact_past};
 ghost use Rattle.loop_data.specs.Locations.{first_cell, target, writes_cell, instr_writes};
-ghost use Rattle.loop_data.specs.Lookups.{fact_of, fact_in};
+ghost use Rattle.loop_data.specs.Lookups.{is_named, offset_from, fact_of, fact_in};
 
 use crate::values::Value;
 use linear_forms::Loc;
@@ -12,6 +11,16 @@ use rv64_decode::{AluOp, ImmOp, Instr, Reg, StoreOp, UpperOp};
 
 /// The least number that no number of 32 bits reaches.
 const LIMIT: i64 = 1 << 31;
+
+/// Whether a location is named as one of a loop: a register but x0, or one of at most 16 cells.
+pub fn is_named(loc: Loc) -> bool
+    ensures { result ≡ is_named loc }
+{
+    match loc {
+        Loc::Reg(r) => 1 <= r && r < 32,
+        Loc::Cell(k) => k < 16,
+    }
+}
 
 /// Whether it is a signed number of 32 bits.
 fn is_short(number: i64) -> bool
@@ -33,7 +42,7 @@ fn known(number: i64) -> Value
 
 /// The value of a location at the header, and this number, where it is one of 32 bits.
 fn based(loc: Loc, number: i64) -> Value
-    ensures { fact_of result ≡ ranged (Some (Offset (number_of loc) number)) }
+    ensures { fact_of result ≡ ranged (offset_from loc number) }
 {
     if is_short(number) {
         Value::Base(loc, number.cast_unsigned())
@@ -54,7 +63,7 @@ fn known_sum(n: u64, m: u64) -> Value
 
 /// The sum of a known word and a location's value with another.
 fn based_sum(loc: Loc, n: u64, m: u64) -> Value
-    ensures { fact_of result ≡ ranged (Some (Offset (number_of loc) (signed64 n +ℤ signed64 m))) }
+    ensures { fact_of result ≡ ranged (offset_from loc (signed64 n +ℤ signed64 m)) }
 {
     match n.cast_signed().checked_add(m.cast_signed()) {
         Some(sum) => based(loc, sum),
@@ -74,7 +83,7 @@ fn known_difference(n: u64, m: u64) -> Value
 
 /// The difference of a location's value with a word, and a known one.
 fn based_difference(loc: Loc, n: u64, m: u64) -> Value
-    ensures { fact_of result ≡ ranged (Some (Offset (number_of loc) (signed64 n -ℤ signed64 m))) }
+    ensures { fact_of result ≡ ranged (offset_from loc (signed64 n -ℤ signed64 m)) }
 {
     match n.cast_signed().checked_sub(m.cast_signed()) {
         Some(difference) => based(loc, difference),
@@ -379,7 +388,7 @@ fn is_same(a: Value, b: Value) -> bool
     match (a, b) {
         (Value::Known(n), Value::Known(m)) => n.cast_signed() == m.cast_signed(),
         (Value::Base(p, n), Value::Base(q, m)) => {
-            p.number() == q.number() && n.cast_signed() == m.cast_signed()
+            is_named(p) && p == q && n.cast_signed() == m.cast_signed()
         }
         _ => false,
     }
