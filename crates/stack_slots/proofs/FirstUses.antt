@@ -59,7 +59,7 @@ module _ (words : List BodyWord) where
   pub first_found : (w : BodyWord) → Member words w → uses_cell w ≡ true → list_any (λ (f : BodyWord). use_one_cell f w) (first_uses words) ≡ true
   first_found w m e = found_below (suc w.at) w (omega arith) m e
 
-  first_has : (f : BodyWord) → Member (first_uses words) f → uses_cell f ≡ true
+  pub first_has : (f : BodyWord) → Member (first_uses words) f → uses_cell f ≡ true
   first_has f m = (and_true (uses_cell f) (not (list_any (λ (v : BodyWord). nat_lt v.at f.at && use_one_cell v f) words)) (kept_passes (is_first_use words) words f m)).0
 
   -- the use with the number of the first use of its cell

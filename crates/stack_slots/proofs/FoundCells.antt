@@ -1,10 +1,10 @@
 -- Each use of a cell is an access at the cell's address.
-use Rattle.std.proofs.Common.{inl, ◌≡◌, ℕ, ℤ, pos, negsuc, ◌+◌, ◌<◌, ◌≤◌, zero, suc, ◌==◌, Bool, true, false, not, if◌then◌else◌, nat_lt, List, [], ◌∷◌, length, map, filter, get_or, Option, Some, None, refl, ap, sym, ◌∙◌, subst, arith}
+use Rattle.std.proofs.Common.{inl, ◌≡◌, ℕ, ℤ, pos, negsuc, ◌+◌, ◌<◌, ◌≤◌, zero, suc, ◌==◌, Bool, true, false, not, if◌then◌else◌, ◌&&◌, nat_le, nat_lt, List, [], ◌∷◌, length, map, filter, get_or, Option, Some, None, refl, ap, sym, ◌∙◌, subst, arith}
 use Rattle.std.specs.List.{All, AllPairs, Contains, cons_option, filter_map}
 use Rattle.std.specs.List.Sorted.{IsStrictlyIncreasing}
 use Rattle.std.specs.Prelude.{slice_get, find}
-use Rattle.std.specs.Option.{option_or}
 use Rattle.std.proofs.lemmas.Int.{ints}
+use Rattle.std.proofs.lemmas.Bool.{ltb-true}
 use Rattle.std.proofs.lemmas.Bool.Decides.{nat_tests}
 use Rattle.std.proofs.lemmas.List.{get_or-map, length-map, get_or_default}
 use Rattle.std.proofs.lemmas.List.Kept.{AllPairs-from_increasing, AllPairs-filter}
@@ -34,21 +34,23 @@ use Rattle.loop_data.specs.Lookups.{cell_map, use_of, AreNumbered}
 use Rattle.loop_data.specs.Nests.{Nest, Holds, nest_of}
 use Rattle.loop_data.proofs.FactUnique.{none_writes_it}
 use Rattle.loop_data.proofs.FactsExist.{facts_exist}
-use Rattle.loop_data.proofs.Tests.{eq_of}
+use Rattle.loop_data.proofs.Tests.{eq_of, and_true}
 use Rattle.linear_forms.proofs.Ranges.{between_is}
 use Rattle.stack_slots.specs.declared.words.BodyWord.{BodyWord}
 use Rattle.stack_slots.specs.declared.words.KnownAddress.{KnownAddress}
 use Rattle.stack_slots.specs.declared.words.Touch.{Touch}
-use Rattle.stack_slots.specs.CellRules.{uses_cell, is_of_cell, first_uses, cell_with, cell_of, is_stored, is_far_auipc, limit_at}
-use Rattle.stack_slots.specs.CellLaws.{NumberedLaw, FoundLaw}
+use Rattle.stack_slots.specs.CellRules.{uses_cell, is_of_cell, is_first_use, first_uses, cell_with, cell_of, is_stored, is_far_auipc, limit_at, limit_of}
+use Rattle.stack_slots.specs.CellLaws.{NumberedLaw, FoundLaw, BasesLaw}
 use Rattle.stack_slots.specs.Results.{AreUses, HasCells, AreCellsOf}
 use Rattle.stack_slots.specs.Touches.{is_kept, known_by, known_address, loads_cells, stores_cells, accesses_cells, touch_with, touch_by, touch_of, word_at, words_of}
+use Rattle.stack_slots.proofs.Members.{to_member, from_member, kept_member, kept_source}
+use Rattle.stack_slots.proofs.Limits.{first_none, later_none}
 use Rattle.stack_slots.proofs.Points.{nest_is, this_nest}
 
 -- ---- the words of a body
 
 -- a word of the body is that of its address
-word_among : (B : LoopCode) (V : ℕ → ℕ → Option Fact) (body us : List ℕ) (w : BodyWord) → Contains (map (λ (u : ℕ). word_at B body (V u) u) us) w → (w ≡ word_at B body (V w.at) w.at) × Contains us w.at
+pub word_among : (B : LoopCode) (V : ℕ → ℕ → Option Fact) (body us : List ℕ) (w : BodyWord) → Contains (map (λ (u : ℕ). word_at B body (V u) u) us) w → (w ≡ word_at B body (V w.at) w.at) × Contains us w.at
 word_among B V body us w c =
     let n = length-map us (λ (u : ℕ). word_at B body (V u) u) in
     let l : c.0 < length us = let k = c.1 in omega arith in
@@ -56,21 +58,25 @@ word_among B V body us w c =
     let a : get_or us c.0 0 ≡ w.at = ap (λ (x : BodyWord). x.at) e in
     (sym (subst (λ u. word_at B body (V u) u ≡ w) a e), (c.0, l, get_or_default us c.0 w.at 0 l ∙ a))
 
-addresses_of : (B : LoopCode) (V : ℕ → ℕ → Option Fact) (body us : List ℕ) → map (λ (w : BodyWord). w.at) (map (λ (u : ℕ). word_at B body (V u) u) us) ≡ us
+pub addresses_of : (B : LoopCode) (V : ℕ → ℕ → Option Fact) (body us : List ℕ) → map (λ (w : BodyWord). w.at) (map (λ (u : ℕ). word_at B body (V u) u) us) ≡ us
 addresses_of B V body [] = refl
 addresses_of B V body (u ∷ us) = ap (λ xs. u ∷ xs) (addresses_of B V body us)
 
 -- ---- addresses that are known
 
--- a register that no word of the body writes
-kept_is : (G : Graph) (C : CellMap) (l : Level) (q : ℕ) → is_kept (code_of G no_cells) l.body q ≡ true → (q < first_cell) × IsUnwritten (code_of G C) l q
-kept_is G C l q e = go (nat_lt q first_cell) refl e
+-- a register but x0 that no word of the body writes
+kept_is : (G : Graph) (C : CellMap) (l : Level) (q : ℕ) → is_kept (code_of G no_cells) l.body q ≡ true → (1 ≤ q) × (q < first_cell) × IsUnwritten (code_of G C) l q
+kept_is G C l q e = go (nat_le 1 q && nat_lt q first_cell) refl e
   where
-    go : (b : Bool) → nat_lt q first_cell ≡ b → (if b then not (any_writes (code_of G no_cells) l.body q) else false) ≡ true → (q < first_cell) × IsUnwritten (code_of G C) l q
+    go : (b : Bool) → (nat_le 1 q && nat_lt q first_cell) ≡ b → (if b then not (any_writes (code_of G no_cells) l.body q) else false) ≡ true → (1 ≤ q) × (q < first_cell) × IsUnwritten (code_of G C) l q
     go true f h =
         let none : any_writes (code_of G no_cells) l.body q ≡ false = not_false (any_writes (code_of G no_cells) l.body q) h in
-        (grind (arith, nat_tests), λ u hu. low (instr_of u) (C.uses u) f ∙ none_writes_it (code_of G no_cells) l.body q u none hu)
+        let parts = and_true (nat_le 1 q) (nat_lt q first_cell) f in
+        (at_least q parts.0, ltb-true q first_cell parts.1, λ u hu. low (instr_of u) (C.uses u) parts.1 ∙ none_writes_it (code_of G no_cells) l.body q u none hu)
       where
+        at_least : (n : ℕ) → nat_le 1 n ≡ true → 1 ≤ n
+        at_least n g = grind (arith, nat_tests)
+
         not_false : (b : Bool) → not b ≡ true → b ≡ false
         not_false false h = refl
         not_false true h = absurd (cc)
@@ -93,6 +99,7 @@ near_offset z e = let p = between_is (negsuc 2047) (pos 2048) z e in let a = p.0
 record Known (G : Graph) (C : CellMap) (l : Level) (o : Option Fact) (a : KnownAddress) : Type 0 where
   pub fact : o ≡ Some (address_by a.base a.offset)
   pub base : (N : Nest) → N.root ≡ l → HasFixedBase N (code_of G C) a.base
+  pub kept : (q : ℕ) → a.base ≡ Some q → (1 ≤ q) × (q < first_cell) × IsUnwritten (code_of G C) l q
   pub near : IsSigned 32 a.offset
 
 known_is : (G : Graph) (C : CellMap) (l : Level) (o : Option Fact) (a : KnownAddress) → known_by (is_kept (code_of G no_cells) l.body) o ≡ Some a → Known G C l o a
@@ -102,7 +109,7 @@ known_is G C l (Some (Number z)) a e = go (between (pos 0) (pos 0x7FFF_F800) z) 
     go : (b : Bool) → between (pos 0) (pos 0x7FFF_F800) z ≡ b → (if b then Some (record { base = None; offset = z }) else None) ≡ Some a → Known G C l (Some (Number z)) a
     go true f h =
         let q : record { base = None; offset = z } ≡ a = cc in
-        subst (Known G C l (Some (Number z))) q (record { fact = refl; base = λ N e. tt; near = near_number z f })
+        subst (Known G C l (Some (Number z))) q (record { fact = refl; base = λ N e. tt; kept = λ q k. absurd (cc); near = near_number z f })
     go false f h = absurd (cc)
 known_is G C l (Some (Offset q z)) a e = go (is_kept (code_of G no_cells) l.body q) refl (between (negsuc 2047) (pos 2048) z) refl e
   where
@@ -110,7 +117,7 @@ known_is G C l (Some (Offset q z)) a e = go (is_kept (code_of G no_cells) l.body
         → (if k then (if b then Some (record { base = Some q; offset = z }) else None) else None) ≡ Some a → Known G C l (Some (Offset q z)) a
     go true g true f h =
         let y : record { base = Some q; offset = z } ≡ a = cc in
-        subst (Known G C l (Some (Offset q z))) y (record { fact = refl; base = λ N e. subst (λ (m : Level). (q < first_cell) × IsUnwritten (code_of G C) m q) (sym e) (kept_is G C l q g); near = near_offset z f })
+        subst (Known G C l (Some (Offset q z))) y (record { fact = refl; base = λ N e. subst (λ (m : Level). (q < first_cell) × IsUnwritten (code_of G C) m q) (sym e) (let k = kept_is G C l q g in (k.1, k.2)); kept = λ r k. kept_is G C l r (let x : q ≡ r = cc in subst (λ n. is_kept (code_of G no_cells) l.body n ≡ true) x g); near = near_offset z f })
     go true g false f h = absurd (cc)
     go false g b f h = absurd (cc)
 
@@ -145,14 +152,14 @@ width_is (Some Ebreak) m e k = absurd (cc)
 width_is None m e k = absurd (cc)
 
 -- what a touch is
-record Touched (kept : ℕ → Bool) (F : ℕ → Option Fact) (i : Option Instr) (t : Touch) : Type 0 where
+pub record Touched (kept : ℕ → Bool) (F : ℕ → Option Fact) (i : Option Instr) (t : Touch) : Type 0 where
   pub moves : Motion
   pub is : motion_of i ≡ Some moves
   pub address : known_address kept F moves.base moves.offset ≡ Some t.address
   pub width : t.width ≡ moves.width
   pub of_cell : t.of_cell ≡ accesses_cells i
 
-touched : (kept : ℕ → Bool) (F : ℕ → Option Fact) (i : Option Instr) (t : Touch) → touch_of kept F i ≡ Some t → Touched kept F i t
+pub touched : (kept : ℕ → Bool) (F : ℕ → Option Fact) (i : Option Instr) (t : Touch) → touch_of kept F i ≡ Some t → Touched kept F i t
 touched kept F i t e = go (motion_of i) refl e
   where
     go : (o : Option Motion) → motion_of i ≡ o → touch_by kept F (accesses_cells i) o ≡ Some t → Touched kept F i t
@@ -167,7 +174,7 @@ touched kept F i t e = go (motion_of i) refl e
 
 -- ---- numbers of uses
 
-rising_at : (ws : List BodyWord) → IsStrictlyIncreasing (map (λ (w : BodyWord). w.at) ws) → (p : BodyWord → Bool) → IsStrictlyIncreasing (map (λ (w : BodyWord). w.at) (filter p ws))
+pub rising_at : (ws : List BodyWord) → IsStrictlyIncreasing (map (λ (w : BodyWord). w.at) ws) → (p : BodyWord → Bool) → IsStrictlyIncreasing (map (λ (w : BodyWord). w.at) (filter p ws))
 rising_at ws up p k within =
     let d : BodyWord = record { at = 0; instr = None; touch = None } in
     let n = length-map (filter p ws) (λ (w : BodyWord). w.at) in
@@ -184,7 +191,7 @@ rising_at ws up p k within =
         let b = get_or-map (λ (w : BodyWord). w.at) ws j d 0 within in
         omega arith
 
-some_cell : (words : List BodyWord) (w : BodyWord) → uses_cell w ≡ true → (t : Touch) × (w.touch ≡ Some t) × (t.of_cell ≡ true)
+pub some_cell : (words : List BodyWord) (w : BodyWord) → uses_cell w ≡ true → (t : Touch) × (w.touch ≡ Some t) × (t.of_cell ≡ true)
 some_cell words w e = go w.touch refl e
   where
     go : (o : Option Touch) → w.touch ≡ o → is_of_cell o ≡ true → (t : Touch) × (w.touch ≡ Some t) × (t.of_cell ≡ true)
@@ -197,6 +204,18 @@ cell_by stored t = record { base = t.address.base; offset = t.address.offset; wi
 
 cell_is : (words : List BodyWord) (w : BodyWord) (t : Touch) → w.touch ≡ Some t → t.of_cell ≡ true → cell_of words w ≡ Some (cell_by (is_stored words w) t)
 cell_is words w t q f = ap (cell_with (is_stored words w)) q ∙ ap (λ b. if b then Some (cell_by (is_stored words w) t) else None) f
+
+-- the access of a word that has a cell, and its base
+cell_touch : (words : List BodyWord) (w : BodyWord) (c : Cell) → cell_of words w ≡ Some c → (t : Touch) × (w.touch ≡ Some t) × (t.address.base ≡ c.base)
+cell_touch words w c e = go w.touch refl e
+  where
+    go : (o : Option Touch) → w.touch ≡ o → cell_with (is_stored words w) o ≡ Some c → (t : Touch) × (w.touch ≡ Some t) × (t.address.base ≡ c.base)
+    go None q h = absurd (cc)
+    go (Some t) q h = (t, q, by t.of_cell h)
+      where
+        by : (b : Bool) → (if b then Some (cell_by (is_stored words w) t) else None) ≡ Some c → t.address.base ≡ c.base
+        by true g = let x : cell_by (is_stored words w) t ≡ c = cc in ap (λ (y : Cell). y.base) x
+        by false g = absurd (cc)
 
 cell_below : (cs : List Cell) (k : ℕ) (c : Cell) → cell_at cs k ≡ Some c → k < length cs
 cell_below [] k c e = absurd (cc)
@@ -211,20 +230,12 @@ kept_length h (x ∷ xs) = go (h x) (kept_length h xs)
     go None l = omega arith
     go (Some y) l = omega arith
 
-no_more : {X : Type 0} (xs : List X) (n : ℕ) → slice_get xs n ≡ None → length xs ≤ n
+pub no_more : {X : Type 0} (xs : List X) (n : ℕ) → slice_get xs n ≡ None → length xs ≤ n
 no_more [] n e = omega arith
 no_more (x ∷ xs) zero e = absurd (cc)
 no_more (x ∷ xs) (suc n) e = let l = no_more xs n e in omega arith
 
-first_none : (o p : Option Verdict) → option_or o p ≡ None → o ≡ None
-first_none None p e = refl
-first_none (Some v) p e = absurd (cc)
-
-later_none : (o p : Option Verdict) → option_or o p ≡ None → p ≡ None
-later_none None p e = e
-later_none (Some v) p e = absurd (cc)
-
-no_limit : (o : Option BodyWord) → limit_at o ≡ None → o ≡ None
+pub no_limit : (o : Option BodyWord) → limit_at o ≡ None → o ≡ None
 no_limit None e = refl
 no_limit (Some w) e = absurd (cc)
 
@@ -263,10 +274,22 @@ module _ (G : Graph) (ls : List Level) (c : Cells) (nest : AreNest G ls) (cells 
     few : length c.list.items ≤ 16
     few =
         let none = sym has_cells.fault ∙ sound in
-        let l = no_more (first_uses words) 16 (no_limit (slice_get (first_uses words) 16) (first_none _ _ (later_none (limit_at (find is_far_auipc words)) _ none))) in
+        let l = no_more (first_uses words) 16 (no_limit (slice_get (first_uses words) 16) (first_none _ _ (later_none (limit_at (find is_far_auipc words)) _ (first_none (limit_of words) _ none)))) in
         let m = kept_length (cell_of words) (first_uses words) in
         let e = ap length (has_cells.list sound) in
         omega arith
+
+    -- the base of a cell that is listed
+    base_kept : (cell : Cell) → Contains c.list.items cell → (q : ℕ) → cell.base ≡ Some q → (1 ≤ q) × (q < first_cell) × IsUnwritten (code_of G (cell_map c)) nest.root q
+    base_kept cell k q e =
+        let s = kept_source (cell_of words) (first_uses words) cell (to_member (filter_map (cell_of words) (first_uses words)) cell (subst (λ cs. Contains cs cell) (has_cells.list sound) k)) in
+        let w = s.element in
+        let a = word_among D V body body w (from_member words w (kept_member (is_first_use words) words w s.member)) in
+        let t = cell_touch words w cell s.is in
+        let own : touch_of (is_kept D body) (V w.at) (D.instr w.at) ≡ Some t.0 = sym (ap (λ (x : BodyWord). x.touch) a.0) ∙ t.1 in
+        let x = touched (is_kept D body) (V w.at) (D.instr w.at) t.0 own in
+        let known = known_is G (cell_map c) nest.root (fact_sum (fact_read (V w.at) (x.moves).base) (Some (Number (x.moves).offset))) (t.0).address x.address in
+        known.kept q (t.2 ∙ e)
 
     pub is_numbered : AreNumbered c
     is_numbered = record { ordered = ordered; numbers = numbers; few = few }
@@ -310,3 +333,22 @@ found_law G ls c N V nest cells sound is facts =
 
 pub numbered_law : NumberedLaw
 numbered_law G ls c nest cells sound = let f = facts_exist (nest_of G nest.root nest.inner) (code_of G no_cells) nest.root nest.nest (inl refl) in is_numbered G ls c nest cells sound f.0 f.1
+
+pub bases_law : BasesLaw
+bases_law G ls c N nest cells is cell among q e = go c.fault refl
+  where
+    f : (V : ℕ → ℕ → Option Fact) × AreFacts (nest_of G nest.root nest.inner) (code_of G no_cells) nest.root V
+    f = facts_exist (nest_of G nest.root nest.inner) (code_of G no_cells) nest.root nest.nest (inl refl)
+
+    has : HasCells (words_of (code_of G no_cells) nest.root.body f.0) c
+    has = cells (nest_of G nest.root nest.inner) f.0 (this_nest G ls nest) f.1
+
+    own : (1 ≤ q) × (q < first_cell) × IsUnwritten (code_of G (cell_map c)) nest.root q → (1 ≤ q) × (q < first_cell) × IsUnwritten (code_of G (cell_map c)) N.root q
+    own h = subst (λ (M : Nest). (1 ≤ q) × (q < first_cell) × IsUnwritten (code_of G (cell_map c)) M.root q) (sym (nest_is G ls nest N is)) h
+
+    go : (o : Option Verdict) → c.fault ≡ o → (1 ≤ q) × (q < first_cell) × IsUnwritten (code_of G (cell_map c)) N.root q
+    go None sound = own (base_kept G ls c nest cells sound f.0 f.1 cell among q e)
+    go (Some v) sound =
+        let none = has.none (λ n. let x : Some v ≡ None = sym sound ∙ n in absurd (cc)) in
+        let k = subst (λ cs. Contains cs cell) none.0 among in
+        absurd (let l = k.1 in omega arith)

@@ -4,3 +4,10 @@ pub mod FirstUses
 pub mod UseLists
 pub mod Points
 pub mod FoundCells
+pub mod Orders
+pub mod FirstsFound
+pub mod MixedPairs
+pub mod KeptFlags
+pub mod Limits
+pub mod Decided
+pub mod OneList

@@ -125,3 +125,15 @@ cells_in_end {E} G ls ms nest same none empty points body words r is_body facts 
     let made = is_words ∙ ap (λ us. words_by (code_of G no_cells) us points) is_body in
     subst (λ (xs : List Level). IfOk r (AreCellsOf G xs)) same
     (if_ok r (HasCells words) (AreCellsOf G ls) (λ (c : Cells) has. cells_are G ls nest points own c (subst (λ ws. HasCells ws c) made has)) ok)
+
+-- the words of a body stand in its order
+pub addresses_by : (B : LoopCode) (body : List ℕ) (points : List Values) → map (λ (w : BodyWord). w.at) (words_by B body points) ≡ ats points
+addresses_by B body [] = refl
+addresses_by B body (p ∷ ps) = ap (λ xs. p.at ∷ xs) (addresses_by B body ps)
+
+pub words_in_order : (G : Graph) (ls ms : List Level) (nest : AreNest G ls) → ls ≡ ms → (C : CellMap) (points : List Values) → AreFactsOf G ms C 0 points → (B : LoopCode) (body : List ℕ) (words : List BodyWord) → words ≡ words_by B body points
+    → IsStrictlyIncreasing (map (λ (w : BodyWord). w.at) words)
+words_in_order G ls ms nest same C points facts B body words made =
+    let own = facts.words nest.root (ap (λ (xs : List Level). get_or xs 0 nest.root) (sym same) ∙ first_is G ls nest nest.root) in
+    let all = ap (map (λ (w : BodyWord). w.at)) made ∙ addresses_by B body points ∙ own in
+    subst (λ xs. IsStrictlyIncreasing xs) (sym all) (nest.ordered nest.root (inl refl))

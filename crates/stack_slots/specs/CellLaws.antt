@@ -1,13 +1,18 @@
 -- What the cells of a loop promise to the passes that know them.
-use Rattle.std.specs.Prelude.{ℕ, ◌≡◌, List, Option, None}
+use Rattle.std.specs.Prelude.{ℕ, ◌≡◌, ◌<◌, ◌≤◌, ◌⊎◌, List, Option, Some, None}
+use Rattle.std.specs.List.{Contains}
 use Rattle.loop_data.specs.declared.cells.Cells.{Cells}
 use Rattle.loop_data.specs.declared.graph.Graph.{Graph}
 use Rattle.loop_data.specs.declared.shape.Level.{Level}
+use Rattle.loop_data.specs.declared.verdict.Cell.{Cell}
+use Rattle.loop_data.specs.declared.verdict.Verdict.{Verdict}
+use Rattle.loop_data.specs.declared.verdict.Verdict.TheVariants.{Limit, MixedCell}
+use Rattle.loop_data.specs.Accesses.{access_count}
 use Rattle.loop_data.specs.Facts.{Fact}
 use Rattle.loop_data.specs.FactPass.{AreFacts}
 use Rattle.loop_data.specs.FoundCells.{AreFoundCells}
-use Rattle.loop_data.specs.Locations.{no_cells}
-use Rattle.loop_data.specs.LoopCode.{code_of}
+use Rattle.loop_data.specs.Locations.{no_cells, first_cell}
+use Rattle.loop_data.specs.LoopCode.{code_of, IsUnwritten}
 use Rattle.loop_data.specs.LoopWords.{AreNest}
 use Rattle.loop_data.specs.Lookups.{cell_map, AreNumbered}
 use Rattle.loop_data.specs.Nests.{Nest}
@@ -24,3 +29,19 @@ abbrev pub FoundLaw : Type 0
 FoundLaw = (G : Graph) (levels : List Level) (c : Cells) (N : Nest) (V : ℕ → ℕ → Option Fact) → AreNest G levels
     → AreCellsOf G levels c → c.fault ≡ None → IsNestOf G levels N → AreFacts N (code_of G no_cells) N.root V
     → AreFoundCells N (code_of G (cell_map c)) V
+
+-- the base of each cell is a register but x0 that no word of the root writes
+abbrev pub BasesLaw : Type 0
+BasesLaw = (G : Graph) (levels : List Level) (c : Cells) (N : Nest) → AreNest G levels → AreCellsOf G levels c
+    → IsNestOf G levels N → (cell : Cell) → Contains c.list.items cell → (q : ℕ) → cell.base ≡ Some q
+    → (1 ≤ q) × (q < first_cell) × IsUnwritten (code_of G (cell_map c)) N.root q
+
+-- what the cells decide is a limit or a mixed pair
+abbrev pub FaultLaw : Type 0
+FaultLaw = (G : Graph) (levels : List Level) (c : Cells) (v : Verdict) → AreNest G levels → AreCellsOf G levels c
+    → c.fault ≡ Some v → (at : ℕ) × ((v ≡ Limit at) ⊎ (v ≡ MixedCell at))
+
+-- where they decide nothing, at most 32 words of the root access anything else
+abbrev pub FewAccessesLaw : Type 0
+FewAccessesLaw = (G : Graph) (levels : List Level) (c : Cells) (N : Nest) → AreNest G levels → AreCellsOf G levels c
+    → c.fault ≡ None → IsNestOf G levels N → access_count (code_of G (cell_map c)) N.root.body ≤ 32

@@ -147,6 +147,15 @@ abbrev pub is_mixed : List BodyWord → BodyWord → Bool
 is_mixed words w =
     list_any (λ (v : BodyWord). nat_lt v.at w.at && both are_mixed v.touch w.touch) words
 
+-- there is an access, and it is of no cell
+abbrev pub is_plain : Option Touch → Bool
+is_plain (Some t) = not t.of_cell
+is_plain None = false
+
+-- the word is the later one of a mixed pair with a first use of a cell, or with an access of no cell
+abbrev pub is_mixed_later : List BodyWord → List BodyWord → BodyWord → Bool
+is_mixed_later firsts plain w = is_mixed firsts w || is_mixed plain w
+
 -- the verdict at a word, if there is one
 abbrev pub limit_at : Option BodyWord → Option Verdict
 limit_at (Some w) = Some (Limit w.at)
@@ -156,12 +165,16 @@ abbrev pub mixed_at : Option BodyWord → Option Verdict
 mixed_at (Some w) = Some (MixedCell w.at)
 mixed_at None = None
 
--- why a loop is not taken, where its cells decide that. The first of these that is so is told: the first auipc that
--- is far; the first use of a 17th cell; a 33rd access of no cell; a 33rd word that may owe; the first word that is the
--- later one of a mixed pair
-abbrev pub fault_of : List BodyWord → Option Verdict
-fault_of words =
+-- the first limit that is passed, of these: the first auipc that is far; the first use of a 17th cell; a 33rd access
+-- of no cell; a 33rd word that may owe
+abbrev pub limit_of : List BodyWord → Option Verdict
+limit_of words =
     option_or (limit_at (find is_far_auipc words))
     (option_or (limit_at (slice_get (first_uses words) 16))
     (option_or (limit_at (slice_get (filter is_other_access words) 32))
-    (option_or (limit_at (slice_get (filter may_owe words) 32)) (mixed_at (find (is_mixed words) words)))))
+    (limit_at (slice_get (filter may_owe words) 32))))
+
+-- why a loop is not taken, where its cells decide that: the first limit that is passed, or the first word that is the
+-- later one of a mixed pair
+abbrev pub fault_of : List BodyWord → Option Verdict
+fault_of words = option_or (limit_of words) (mixed_at (find (is_mixed words) words))

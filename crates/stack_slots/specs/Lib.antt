@@ -3,3 +3,4 @@ pub mod CellRules
 pub mod Results
 pub mod CellLaws
 pub mod Uses
+pub mod OneList

@@ -1,5 +1,5 @@
 -- The cells of a loop, over the facts of the pass that knows no cells.
-use Rattle.std.specs.Prelude.{ℕ, ◌≡◌, true, List, map, filter, filter_map, Option, None}
+use Rattle.std.specs.Prelude.{ℕ, ◌≡◌, ◌≢◌, true, List, [], map, filter, filter_map, Option, None}
 use Rattle.std.specs.List.{Contains}
 use Rattle.loop_data.specs.declared.cells.Cells.{Cells}
 use Rattle.loop_data.specs.declared.graph.Graph.{Graph}
@@ -28,9 +28,11 @@ pub record AreUses (words : List BodyWord) (list : List Cell) (uses : List (ℕ 
   pub words_are : map (λ (u : ℕ × ℕ). u.0) uses ≡ map (λ (w : BodyWord). w.at) (filter uses_cell words)
   pub each : (u : ℕ × ℕ) → Contains uses u → IsUse words list u
 
--- the cells of the words of a body, numbered by their first uses, or why there are none
+-- the cells of the words of a body, numbered by their first uses, or why there are none: nothing is listed beside
+-- a fault
 pub record HasCells (words : List BodyWord) (c : Cells) : Type 0 where
   pub fault : c.fault ≡ fault_of words
+  pub none : c.fault ≢ None → (c.list.items ≡ []) × (c.uses.items ≡ [])
   pub list : c.fault ≡ None → c.list.items ≡ filter_map (cell_of words) (first_uses words)
   pub uses : c.fault ≡ None → AreUses words c.list.items c.uses.items
 

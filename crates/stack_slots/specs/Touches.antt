@@ -1,5 +1,5 @@
 -- Accesses at known addresses, before anything is known of cells.
-use Rattle.std.specs.Prelude.{ℕ, Bool, true, false, not, nat_lt, if◌then◌else◌, List, map, Option, Some, None, ℤ, pos, negsuc}
+use Rattle.std.specs.Prelude.{ℕ, Bool, true, false, not, ◌&&◌, nat_le, nat_lt, if◌then◌else◌, List, map, slice_index_or, Option, Some, None, ℤ, pos, negsuc}
 use Rattle.rv64_decode.specs.declared.instr.Instr.{Instr}
 use Rattle.rv64_decode.specs.declared.instr.Instr.TheVariants.{Load, Store}
 use Rattle.rv64_decode.specs.declared.instr.LoadOp.{LoadOp}
@@ -15,9 +15,17 @@ use Rattle.stack_slots.specs.declared.words.BodyWord.{BodyWord}
 use Rattle.stack_slots.specs.declared.words.KnownAddress.{KnownAddress}
 use Rattle.stack_slots.specs.declared.words.Touch.{Touch}
 
+-- the number is that of a register but x0, which is not written
+abbrev pub is_unwritten : (ℕ → Bool) → ℕ → Bool
+is_unwritten written q = if nat_le 1 q && nat_lt q first_cell then not (written q) else false
+
 -- no word of the body writes the register
 abbrev pub is_kept : LoopCode → List ℕ → ℕ → Bool
-is_kept B body q = if nat_lt q first_cell then not (any_writes B body q) else false
+is_kept B body q = is_unwritten (any_writes B body) q
+
+-- the same by a flag for each location, of those that are written
+abbrev pub is_unset : List Bool → ℕ → Bool
+is_unset flags q = is_unwritten (λ r. slice_index_or flags r false) q
 
 -- the known address of a fact: a number in [0, 0x7FFFF800), or an offset in [-2048, 2047] from the header's value
 -- of a register that no word of the body writes

@@ -1,6 +1,6 @@
 -- The uses of cells, one after the other.
-use Rattle.std.specs.Prelude.{ℕ, ◌≡◌, ◌≤◌, Bool, true, false, List, [], ◌∷◌, ◌++◌, length, map, drop, filter, filter_map, slice_get, Some}
-use Rattle.std.specs.List.{Contains}
+use Rattle.std.specs.Prelude.{ℕ, ◌≡◌, ◌≤◌, ◌&&◌, not, nat_lt, if◌then◌else◌, Bool, true, false, List, [], ◌∷◌, ◌++◌, length, map, drop, filter, filter_map, slice_get, Some}
+use Rattle.std.specs.List.{Contains, list_any}
 use Rattle.stack_slots.specs.declared.words.BodyWord.{BodyWord}
 use Rattle.stack_slots.specs.CellRules.{uses_cell, use_one_cell, cell_of}
 use Rattle.stack_slots.specs.Results.{IsUse}
@@ -10,6 +10,17 @@ pub record IsNumber (firsts : List BodyWord) (w : BodyWord) (k : ℕ) : Type 0 w
   pub first : BodyWord
   pub at : slice_get firsts k ≡ Some first
   pub same : use_one_cell first w ≡ true
+
+-- the first uses with that of the word, if it accesses a cell that none of them does, and 17 at most
+abbrev pub first_added : List BodyWord → BodyWord → List BodyWord
+first_added firsts w =
+    if nat_lt (length firsts) 17
+    then (
+    if uses_cell w && not (list_any (λ (f : BodyWord). use_one_cell f w) firsts)
+    then firsts ++ w ∷ []
+    else firsts
+    )
+    else firsts
 
 -- the uses are the old ones with that of the word, if it is one
 abbrev pub IsUseAdded : Bool → List BodyWord → BodyWord → List (ℕ × ℕ) → List (ℕ × ℕ) → Type 0

@@ -1,9 +1,10 @@
-ghost use Rattle.std.specs.Prelude.{◌≡◌, ◌≤◌, ◌+ℤ◌, pos, filter, find, slice_get, length, IfOk, None, Some, is_some};
+ghost use Rattle.std.specs.Prelude.{◌≡◌, ◌≤◌, ◌+ℤ◌, pos, filter, find, take, slice_get, length, IfOk, None, Some, is_some};
 ghost use Rattle.linear_forms.specs.Forms.{constant_fits};
 ghost use Rattle.loop_data.specs.Accesses.{motion_of};
-ghost use Rattle.stack_slots.specs.CellRules.{is_far, is_far_auipc, is_other_access, is_short_alu, is_short_imm, is_sw, is_short_word, may_owe, is_mixed, first_uses, limit_at, mixed_at, fault_of};
+ghost use Rattle.stack_slots.specs.CellRules.{is_far, is_far_auipc, is_other_access, is_short_alu, is_short_imm, is_sw, is_short_word, may_owe, is_mixed, is_plain, is_mixed_later, first_uses, limit_at, limit_of, mixed_at, fault_of};
+ghost use Rattle.stack_slots.specs.declared.words.BodyWord.{BodyWord};
 
-use crate::uses::{is_mixed, uses_cell};
+use crate::uses::{is_mixed, is_plain, uses_cell};
 use crate::words::BodyWord;
 use loop_data::Verdict;
 use rv64_decode::{AluOp, ImmOp, Instr, StoreOp, UpperOp};
@@ -178,26 +179,60 @@ fn owing_words(alloc: Global, words: &[BodyWord]) -> Result<Vec<BodyWord>, Alloc
     Ok(found)
 }
 
-/// The first word that is the later one of a mixed pair.
-fn mixed_cell(words: &[BodyWord]) -> Option<Verdict>
-    ensures { result ≡ mixed_at (find (is_mixed words.now) words.now) }
+/// The accesses at known addresses that are of no cell.
+fn plain_accesses(alloc: Global, words: &[BodyWord]) -> Result<Vec<BodyWord>, AllocError>
+    ensures { IfOk result (λ v. v.items ≡ filter (λ (w : BodyWord). is_plain w.touch) words.now) }
+{
+    let mut found = Vec::new(alloc);
+    for word in words {
+        if is_plain(word) {
+            found.push(*word)?;
+        }
+    }
+    Ok(found)
+}
+
+/// Whether a word is the later one of a mixed pair, where these are the first uses and the other accesses.
+fn is_mixed_later(firsts: &[BodyWord], plain: &[BodyWord], word: &BodyWord) -> bool
+    ensures { result ≡ is_mixed_later firsts.now plain.now word.now }
+{
+    is_mixed(firsts, word) || is_mixed(plain, word)
+}
+
+/// The first word that is the later one of a mixed pair with one of these.
+fn mixed_with(words: &[BodyWord], firsts: &[BodyWord], plain: &[BodyWord]) -> Option<Verdict>
+    ensures { result ≡ mixed_at (find (is_mixed_later firsts.now plain.now) words.now) }
 {
     for word in words {
-        if is_mixed(words, word) {
+        if is_mixed_later(firsts, plain, word) {
             return Some(Verdict::MixedCell { at: word.at });
         }
     }
     None
 }
 
-/// Why the words are not taken, where their cells decide that.
-pub fn fault_of(
+/// The first word that is the later one of a mixed pair.
+fn mixed_cell(
     alloc: Global,
     words: &[BodyWord],
     firsts: &[BodyWord],
 ) -> Result<Option<Verdict>, AllocError>
-    requires firsts { firsts.now ≡ first_uses words.now }
-    ensures fault { IfOk result (λ f. f ≡ fault_of words.now) }
+    requires { firsts.now ≡ first_uses words.now }
+    ensures { IfOk result (λ f. f ≡ mixed_at (find (is_mixed words.now) words.now)) }
+{
+    let plain = plain_accesses(alloc, words)?;
+    Ok(mixed_with(words, firsts, plain.as_slice()))
+}
+
+/// The first limit that the words pass.
+fn limit_of(
+    alloc: Global,
+    words: &[BodyWord],
+    firsts: &[BodyWord],
+) -> Result<Option<Verdict>, AllocError>
+    requires firsts { firsts.now ≡ take 17 (first_uses words.now) }
+    ensures limit { IfOk result (λ f. f ≡ limit_of words.now) }
+    ensures whole { IfOk result (λ f. f ≡ None → firsts.now ≡ first_uses words.now) }
     ensures few { IfOk result (λ f. f ≡ None → length firsts.now ≤ 16) }
 {
     let others = other_accesses(alloc, words)?;
@@ -206,6 +241,24 @@ pub fn fault_of(
     let cells = limit_past(firsts, MOST_CELLS);
     let accesses = limit_past(others.as_slice(), MOST_ACCESSES);
     let duties = limit_past(owing.as_slice(), MOST_DUTIES);
-    let mixed = mixed_cell(words);
-    Ok(far.or(cells.or(accesses.or(duties.or(mixed)))))
+    Ok(far.or(cells.or(accesses.or(duties))))
+}
+
+/// Why the words are not taken, where their cells decide that. Within the limits each word is compared with as many
+/// others as a loop may have cells and other accesses, and with no more.
+pub fn fault_of(
+    alloc: Global,
+    words: &[BodyWord],
+    firsts: &[BodyWord],
+) -> Result<Option<Verdict>, AllocError>
+    requires firsts { firsts.now ≡ take 17 (first_uses words.now) }
+    ensures fault { IfOk result (λ f. f ≡ fault_of words.now) }
+    ensures whole { IfOk result (λ f. f ≡ None → firsts.now ≡ first_uses words.now) }
+    ensures few { IfOk result (λ f. f ≡ None → length firsts.now ≤ 16) }
+{
+    let limit = limit_of(alloc, words, firsts)?;
+    if limit.is_some() {
+        return Ok(limit);
+    }
+    mixed_cell(alloc, words, firsts)
 }

@@ -11,5 +11,5 @@ mod touches;
 mod uses;
 pub mod words;
 
-pub use laws::cells_are_found;
+pub use laws::{cells_are_found, cells_are_limited, one_list_of_cells};
 pub use list::cells;

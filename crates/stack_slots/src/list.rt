@@ -1,9 +1,8 @@
-ghost use Rattle.std.specs.Prelude.{◌≡◌, ◌<◌, ◌≤◌, [], true, length, filter_map, IfOk};
+ghost use Rattle.std.specs.Prelude.{◌≡◌, ◌<◌, ◌≤◌, [], true, length, map, filter_map, IfOk};
 ghost use Rattle.std.specs.List.{list_any};
+ghost use Rattle.std.specs.List.Sorted.{IsStrictlyIncreasing};
 ghost use Rattle.arrayvec.specs.ArrayVec.{array_vec_len};
 ghost use Rattle.loop_data.specs.LoopWords.{AreNest};
-ghost use Rattle.loop_data.specs.Locations.{no_cells};
-ghost use Rattle.loop_data.specs.Lookups.{cell_map, AreNumbered};
 ghost use Rattle.loop_data.specs.Paths.{IsInOrder};
 ghost use Rattle.stack_slots.specs.declared.words.BodyWord.{BodyWord};
 ghost use Rattle.stack_slots.specs.CellRules.{uses_cell, use_one_cell, cell_of, first_uses};
@@ -11,7 +10,7 @@ ghost use Rattle.stack_slots.specs.Results.{AreUses, HasCells, AreCellsOf};
 ghost use Rattle.stack_slots.specs.Uses.{IsNumber, IsUseAdded};
 
 use crate::faults::fault_of;
-use crate::touches::words_at;
+use crate::touches::{no_cells, words_at};
 use crate::uses::{cell_of, first_uses, use_one_cell, uses_cell};
 use crate::words::BodyWord;
 use arrayvec::ArrayVec;
@@ -74,24 +73,13 @@ fn uses_of(words: &[BodyWord], firsts: &[BodyWord]) -> ArrayVec<(u64, u8), 256>
     uses
 }
 
-/// No cells, and no word that accesses one.
-fn no_cells() -> Cells
-    ensures none { cell_map result ≡ no_cells }
-    ensures numbered { AreNumbered result }
-{
-    Cells {
-        list: ArrayVec::new(),
-        uses: ArrayVec::new(),
-        fault: None,
-    }
-}
-
 /// The cells of the words of a body, or why there are none.
 pub fn cells_of(alloc: Global, words: &[BodyWord]) -> Result<Cells, AllocError>
-    requires { length words.now ≤ 256 }
+    requires short { length words.now ≤ 256 }
+    requires ordered { IsStrictlyIncreasing (map (λ (w : BodyWord). w.at) words.now) }
     ensures { IfOk result (HasCells words.now) }
 {
-    let firsts = first_uses(alloc, words)?;
+    let firsts = first_uses(words);
     let fault = fault_of(alloc, words, firsts.as_slice())?;
     if fault.is_some() {
         return Ok(Cells {

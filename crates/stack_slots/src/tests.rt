@@ -1,4 +1,6 @@
-ghost use Rattle.std.specs.Prelude.{◌≡◌, ◌∷◌, [], IfOk};
+ghost use Rattle.std.specs.Prelude.{◌≡◌, ◌∷◌, [], map, true, IfOk};
+ghost use Rattle.std.specs.List.Sorted.{IsStrictlyIncreasing};
+ghost use Rattle.stack_slots.specs.declared.words.BodyWord.{BodyWord};
 ghost use Rattle.loop_data.proofs.SampleNest.{graph, root, inside};
 
 use crate::list::{cells, cells_of};
@@ -79,26 +81,37 @@ fn values() -> [Value; 48] {
 
 // The words, of a body that writes no register.
 fn words_of(alloc: Global, instrs: &[Instr]) -> Result<Vec<BodyWord>, AllocError> {
-    let graph = Graph {
-        words: GraphWords::new(Vec::new(alloc)),
-        starts: Addresses::new(Vec::new(alloc)),
-    };
     let values = values();
     let mut words = Vec::new(alloc);
     let mut at = BASE;
     for instr in instrs {
         let instr = Some(*instr);
-        let touch = touch_of(&graph, &[], &values, &instr);
+        let touch = touch_of(&[false; 48], &values, &instr);
         words.push(BodyWord { at, instr, touch })?;
         at = at.wrapping_add(4);
     }
     Ok(words)
 }
 
+// Whether the words stand in address order.
+fn are_in_order(words: &[BodyWord]) -> bool
+    ensures { result ≡ true → IsStrictlyIncreasing (map (λ (w : BodyWord). w.at) words.now) }
+{
+    for i in 1..words.len() {
+        if words[i - 1].at >= words[i].at {
+            return false;
+        }
+    }
+    true
+}
+
 fn found(alloc: Global, instrs: &[Instr]) -> Result<Cells, Fail> {
     let words = words_of(alloc, instrs)?;
     if words.len() > 256 {
         return Err("too many words".into());
+    }
+    if !are_in_order(words.as_slice()) {
+        return Err("the words are out of order".into());
     }
     Ok(cells_of(alloc, words.as_slice())?)
 }
@@ -189,6 +202,9 @@ fn pairs_of_words(rt: HostRuntime) -> Result<(), Fail> {
         (sw(), load(LoadOp::Lwu, 7, 0, 6), None),
         (load(LoadOp::Lb, 7, 3, 6), sw(), None),
         (load(LoadOp::Lh, 7, 4, 6), sw(), Some(1)),
+        (sw(), load(LoadOp::Lh, 7, 2, 6), None),
+        (sw(), load(LoadOp::Lb, 7, 4, 6), Some(1)),
+        (sw(), load(LoadOp::Lwu, 7, 4, 6), Some(1)),
         (
             load(LoadOp::Lw, 7, -2048, 8),
             load(LoadOp::Lw, 7, 2047, 8),
@@ -259,6 +275,9 @@ fn limits(rt: HostRuntime) -> Result<(), Fail> {
         neighbours(alloc, 17)?.as_slice(),
         Some(BASE + 64),
     )?;
+    let mut twice = neighbours(alloc, 17)?;
+    twice.push(load(LoadOp::Ld, 7, 128, 8))?;
+    expect_limit(&rt, alloc, twice.as_slice(), Some(BASE + 64))?;
     let rows = [
         (load(LoadOp::Lb, 7, 0, 15), 32, None),
         (load(LoadOp::Lb, 7, 0, 15), 33, Some(BASE + 128)),

@@ -1,20 +1,20 @@
 ghost use Rattle.std.specs.Prelude.{ℕ, ◌≡◌, ◌<◌, Some, IfOk, ℤ, ◌+ℤ◌, map, true, false};
 ghost use Rattle.rv64_decode.specs.Row.{signed64};
 ghost use Rattle.linear_forms.specs.Forms.{between};
-ghost use Rattle.linear_forms.specs.Locations.{number_of};
 ghost use Rattle.loop_data.specs.declared.values.Values.{Values};
 ghost use Rattle.loop_data.specs.Facts.{Number, Offset, fact_read, fact_sum};
 ghost use Rattle.loop_data.specs.Locations.{no_cells};
-ghost use Rattle.loop_data.specs.LoopCode.{code_of, any_writes};
-ghost use Rattle.loop_data.specs.Lookups.{fact_of, fact_in};
+ghost use Rattle.loop_data.specs.LoopCode.{code_of};
+ghost use Rattle.loop_data.specs.Lookups.{offset_from, fact_of, fact_in, cell_map, AreNumbered};
 ghost use Rattle.loop_data.specs.Paths.{IsInOrder};
-ghost use Rattle.stack_slots.specs.Touches.{is_kept, known_by, known_address, touch_by, loads_cells, stores_cells, touch_of, word_at};
+ghost use Rattle.stack_slots.specs.Touches.{is_kept, is_unset, known_by, known_address, touch_by, loads_cells, stores_cells, touch_of, word_at};
 
 use crate::words::{BodyWord, KnownAddress, Touch};
+use arrayvec::ArrayVec;
 use linear_forms::Loc;
 use loop_data::flow::instr_at;
-use loop_data::value_rows::instr_writes;
-use loop_data::{Graph, Value, Values};
+use loop_data::value_places::mark_body;
+use loop_data::{Cells, Graph, Value, Values};
 use rv64_decode::{Instr, LoadOp, Reg, StoreOp, Width};
 use std::alloc::{AllocError, Global};
 
@@ -24,28 +24,33 @@ const ADDRESS_LIMIT: i64 = 0x7FFF_F800;
 /// How far from its register a cell can stand.
 const REACH: i64 = 2048;
 
-/// Whether a word of a body writes a location.
-fn is_written(graph: &Graph, body: &[u64], r: usize) -> bool
-    requires { IsInOrder graph.now }
-    ensures { result ≡ any_writes (code_of graph.now no_cells) body.now r }
+/// No cells, and no word that accesses one.
+pub fn no_cells() -> Cells
+    ensures none { cell_map result ≡ no_cells }
+    ensures numbered { AreNumbered result }
 {
-    for u in body {
-        if instr_writes(&instr_at(graph, *u), None, r) {
-            return true;
-        }
+    Cells {
+        list: ArrayVec::new(),
+        uses: ArrayVec::new(),
+        fault: None,
     }
-    false
 }
 
-/// Whether no word of a body writes a register.
-fn is_kept(graph: &Graph, body: &[u64], loc: Loc) -> bool
+/// Which locations the words of a body write.
+fn written_in(graph: &Graph, body: &[u64]) -> [bool; 48]
     requires { IsInOrder graph.now }
-    ensures { result ≡ is_kept (code_of graph.now no_cells) body.now (number_of loc) }
+    ensures { is_unset result ≡ is_kept (code_of graph.now no_cells) body.now }
 {
-    match loc {
-        Loc::Reg(r) => r < 32 && !is_written(graph, body, r as usize),
-        Loc::Cell(_) => false,
-    }
+    let mut flags = [false; 48];
+    mark_body(&mut flags, graph, &no_cells(), body);
+    flags
+}
+
+/// Whether a register is one but x0, and is not written.
+fn is_unset(written: &[bool; 48], register: u8) -> bool
+    ensures { result ≡ is_unset written.now register }
+{
+    1 <= register && register < 32 && !written[register as usize]
 }
 
 /// The address, if it is one of a cell.
@@ -77,25 +82,24 @@ fn near_address(register: u8, offset: i64) -> Option<KnownAddress>
 }
 
 /// The address at an offset from the header's value of a location, if that is a register that is not written.
-fn kept_address(graph: &Graph, body: &[u64], loc: Loc, offset: i64) -> Option<KnownAddress>
-    requires { IsInOrder graph.now }
-    ensures { result ≡ known_by (is_kept (code_of graph.now no_cells) body.now)
-        (Some (Offset (number_of loc) offset)) }
+fn kept_address(written: &[bool; 48], loc: Loc, offset: i64) -> Option<KnownAddress>
+    ensures { result ≡ known_by (is_unset written.now) (offset_from loc offset) }
 {
-    if !is_kept(graph, body, loc) {
-        return None;
-    }
     match loc {
-        Loc::Reg(register) => near_address(register, offset),
+        Loc::Reg(register) => {
+            if is_unset(written, register) {
+                near_address(register, offset)
+            } else {
+                None
+            }
+        }
         Loc::Cell(_) => None,
     }
 }
 
 /// The known address at an offset from a value.
-fn address_from(graph: &Graph, body: &[u64], value: Value, offset: i32) -> Option<KnownAddress>
-    requires { IsInOrder graph.now }
-    ensures { result ≡ known_by (is_kept (code_of graph.now no_cells) body.now)
-        (fact_sum (fact_of value) (Some (Number offset))) }
+fn address_from(written: &[bool; 48], value: Value, offset: i32) -> Option<KnownAddress>
+    ensures { result ≡ known_by (is_unset written.now) (fact_sum (fact_of value) (Some (Number offset))) }
 {
     match value {
         Value::Known(n) => match n.cast_signed().checked_add(offset as i64) {
@@ -103,7 +107,7 @@ fn address_from(graph: &Graph, body: &[u64], value: Value, offset: i32) -> Optio
             None => None,
         },
         Value::Base(loc, n) => match n.cast_signed().checked_add(offset as i64) {
-            Some(sum) => kept_address(graph, body, loc, sum),
+            Some(sum) => kept_address(written, loc, sum),
             None => None,
         },
         Value::Nothing => None,
@@ -123,17 +127,14 @@ fn read(values: &[Value; 48], r: Reg) -> Value
 
 /// The known address at an offset from a register.
 fn known_address(
-    graph: &Graph,
-    body: &[u64],
+    written: &[bool; 48],
     values: &[Value; 48],
     base: Reg,
     offset: i32,
 ) -> Option<KnownAddress>
-    requires { IsInOrder graph.now }
-    ensures { result ≡ known_address (is_kept (code_of graph.now no_cells) body.now) (fact_in values.now)
-        base offset }
+    ensures { result ≡ known_address (is_unset written.now) (fact_in values.now) base offset }
 {
-    address_from(graph, body, read(values, base), offset)
+    address_from(written, read(values, base), offset)
 }
 
 /// Whether a load can be one of a cell.
@@ -156,15 +157,10 @@ fn stores_cells(op: StoreOp) -> bool
     }
 }
 
-/// What an instruction accesses at a known address, where these are the values before it.
-pub fn touch_of(
-    graph: &Graph,
-    body: &[u64],
-    values: &[Value; 48],
-    instr: &Option<Instr>,
-) -> Option<Touch>
-    requires { IsInOrder graph.now }
-    ensures { result ≡ touch_of (is_kept (code_of graph.now no_cells) body.now) (fact_in values.now) instr.now }
+/// What an instruction accesses at a known address, where these locations are written, and these are the values
+/// before it.
+pub fn touch_of(written: &[bool; 48], values: &[Value; 48], instr: &Option<Instr>) -> Option<Touch>
+    ensures { result ≡ touch_of (is_unset written.now) (fact_in values.now) instr.now }
 {
     match *instr {
         Some(
@@ -175,7 +171,7 @@ pub fn touch_of(
                 imm,
             },
         ) => {
-            let address = known_address(graph, body, values, rs1, imm)?;
+            let address = known_address(written, values, rs1, imm)?;
             Some(Touch {
                 address,
                 width: op.width(),
@@ -191,7 +187,7 @@ pub fn touch_of(
                 imm,
             },
         ) => {
-            let address = known_address(graph, body, values, rs1, imm)?;
+            let address = known_address(written, values, rs1, imm)?;
             Some(Touch {
                 address,
                 width: op.width(),
@@ -204,12 +200,13 @@ pub fn touch_of(
 }
 
 /// The word at the address of a point, with what it accesses, where these are the values before it.
-fn word_at(graph: &Graph, body: &[u64], point: &Values) -> BodyWord
-    requires { IsInOrder graph.now }
+fn word_at(graph: &Graph, body: &[u64], written: &[bool; 48], point: &Values) -> BodyWord
+    requires graph { IsInOrder graph.now }
+    requires written { is_unset written.now ≡ is_kept (code_of graph.now no_cells) body.now }
     ensures { result ≡ word_at (code_of graph.now no_cells) body.now (fact_in point.now.of) point.now.at }
 {
     let instr = instr_at(graph, point.at);
-    let touch = touch_of(graph, body, &point.of, &instr);
+    let touch = touch_of(written, &point.of, &instr);
     BodyWord {
         at: point.at,
         instr,
@@ -228,8 +225,9 @@ pub fn words_at(
     ensures { IfOk result (λ v. v.items ≡ map
         (λ (p : Values). word_at (code_of graph.now no_cells) body.now (fact_in p.of) p.at) points.now) }
 {
+    let written = written_in(graph, body);
     points
         .iter()
-        .map(|p| word_at(graph, body, p))
+        .map(|p| word_at(graph, body, &written, p))
         .collect(alloc)
 }

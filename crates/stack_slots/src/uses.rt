@@ -1,14 +1,19 @@
-ghost use Rattle.std.specs.Prelude.{◌≡◌, ◌==◌, ◌<◌, ◌&&◌, ℤ, pos, ◌+ℤ◌, int_lt, nat_lt, IfOk, Some, true, length, filter, slice_index};
+ghost use Rattle.std.specs.Prelude.{◌≡◌, ◌==◌, ◌<◌, ◌&&◌, ℤ, pos, ◌+ℤ◌, int_lt, nat_lt, not, map, take, Some, true, length, filter, slice_index};
 ghost use Rattle.std.specs.List.{list_any, Contains};
+ghost use Rattle.std.specs.List.Sorted.{IsStrictlyIncreasing};
 ghost use Rattle.std.specs.Ordering.{int_eq};
 ghost use Rattle.rv64_decode.specs.Area.{bytes_of};
 ghost use Rattle.stack_slots.specs.declared.words.BodyWord.{BodyWord};
-ghost use Rattle.stack_slots.specs.CellRules.{same_base, have_one_base, are_of_one_cell, end_of, meet, are_mixed, both, is_of_cell, is_store, uses_cell, use_one_cell, is_first_use, first_uses, is_stored, cell_with, cell_of, is_mixed};
+ghost use Rattle.stack_slots.specs.CellRules.{same_base, have_one_base, are_of_one_cell, end_of, meet, are_mixed, both, is_of_cell, is_store, uses_cell, use_one_cell, first_uses, is_stored, cell_with, cell_of, is_mixed, is_plain};
+ghost use Rattle.stack_slots.specs.Uses.{first_added};
 
 use crate::words::{BodyWord, Touch};
+use arrayvec::ArrayVec;
 use loop_data::Cell;
 use rv64_decode::Width;
-use std::alloc::{AllocError, Global};
+
+/// One more than the most cells that a loop may have.
+const MOST: usize = 17;
 
 /// Whether two bases are the same.
 fn same_base(a: Option<u8>, b: Option<u8>) -> bool
@@ -119,36 +124,44 @@ fn access_mixed(v: &BodyWord, w: &BodyWord) -> bool
     }
 }
 
-/// Whether a word before this one accesses its cell.
-fn is_used_before(words: &[BodyWord], w: &BodyWord) -> bool
-    ensures { result ≡ list_any (λ (v : BodyWord). nat_lt v.at w.now.at && use_one_cell v w.now) words.now }
+/// Whether one of these words uses one cell with this one.
+fn is_among(firsts: &[BodyWord], w: &BodyWord) -> bool
+    ensures { result ≡ list_any (λ (f : BodyWord). use_one_cell f w.now) firsts.now }
 {
-    for v in words {
-        if v.at < w.at && use_one_cell(v, w) {
+    for f in firsts {
+        if use_one_cell(f, w) {
             return true;
         }
     }
     false
 }
 
-/// Whether no word before this one accesses the cell that it accesses.
-fn is_first_use(words: &[BodyWord], w: &BodyWord) -> bool
-    ensures { result ≡ is_first_use words.now w.now }
+/// Whether a word accesses a cell that none of these words accesses.
+fn is_new(firsts: &[BodyWord], w: &BodyWord) -> bool
+    ensures { result ≡ (uses_cell w.now && not (list_any (λ (f : BodyWord). use_one_cell f w.now) firsts.now)) }
 {
-    uses_cell(w) && !is_used_before(words, w)
+    uses_cell(w) && !is_among(firsts, w)
 }
 
-/// The first uses of the cells, in order.
-pub fn first_uses(alloc: Global, words: &[BodyWord]) -> Result<Vec<BodyWord>, AllocError>
-    ensures { IfOk result (λ v. v.items ≡ first_uses words.now) }
+/// Puts a word at the end where it accesses a cell that none before it accesses, and there is room.
+fn add_first(firsts: &mut ArrayVec<BodyWord, 17>, w: &BodyWord)
+    ensures { firsts.new.items ≡ first_added firsts.old.items w.now }
 {
-    let mut firsts = Vec::new(alloc);
-    for w in words {
-        if is_first_use(words, w) {
-            firsts.push(*w)?;
-        }
+    if firsts.len() < MOST && is_new(firsts.as_slice(), w) {
+        firsts.push(*w);
     }
-    Ok(firsts)
+}
+
+/// The first uses of the cells, in order: as many as a loop may have cells, and one more.
+pub fn first_uses(words: &[BodyWord]) -> ArrayVec<BodyWord, 17>
+    requires { IsStrictlyIncreasing (map (λ (w : BodyWord). w.at) words.now) }
+    ensures { result.items ≡ take 17 (first_uses words.now) }
+{
+    let mut firsts = ArrayVec::new();
+    for w in words {
+        add_first(&mut firsts, w);
+    }
+    firsts
 }
 
 /// Whether a word stores to the cell that this one accesses.
@@ -180,7 +193,7 @@ pub fn cell_of(words: &[BodyWord], w: &BodyWord) -> Option<Cell>
     })
 }
 
-/// Whether a word is the later one of a mixed pair.
+/// Whether a word is the later one of a mixed pair with one of these words.
 pub fn is_mixed(words: &[BodyWord], w: &BodyWord) -> bool
     ensures { result ≡ is_mixed words.now w.now }
 {
@@ -190,4 +203,14 @@ pub fn is_mixed(words: &[BodyWord], w: &BodyWord) -> bool
         }
     }
     false
+}
+
+/// Whether a word accesses a known address, and no cell.
+pub fn is_plain(word: &BodyWord) -> bool
+    ensures { result ≡ is_plain word.now.touch }
+{
+    match word.touch {
+        Some(touch) => !touch.of_cell,
+        None => false,
+    }
 }

@@ -2,7 +2,7 @@ use rv64_decode::{Instr, Width};
 
 /// An address that is known while a loop runs: a number, or the value that a register which the loop does not
 /// write had at its header, and an offset.
-#[derive(Clone, Copy)]
+#[derive(Clone, Copy, Default)]
 pub struct KnownAddress {
     /// The register, or none where the offset is the address.
     pub base: Option<u8>,
@@ -11,7 +11,7 @@ pub struct KnownAddress {
 }
 
 /// An access to bytes from a known address on.
-#[derive(Clone, Copy)]
+#[derive(Clone, Copy, Default)]
 pub struct Touch {
     /// The least address.
     pub address: KnownAddress,
@@ -24,7 +24,7 @@ pub struct Touch {
 }
 
 /// A word of a loop, with what it accesses at a known address.
-#[derive(Clone, Copy)]
+#[derive(Clone, Copy, Default)]
 pub struct BodyWord {
     /// Its address.
     pub at: u64,

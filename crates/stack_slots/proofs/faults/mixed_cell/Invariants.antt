@@ -1,8 +1,0 @@
-use Rattle.std.proofs.Common.{◌≡◌, drop}
-use Rattle.std.specs.List.{find}
-use Rattle.stack_slots.specs.CellRules.{is_mixed, mixed_at}
-use Rattle.stack_slots.proofs.faults.mixed_cell.Given as goal
-
-abbrev pub invariant-loop-word : goal.invariant-loop-word
-invariant-loop-word l =
-    mixed_at (find (is_mixed l.words) (drop l.word-index l.words)) ≡ mixed_at (find (is_mixed l.words) l.words)
