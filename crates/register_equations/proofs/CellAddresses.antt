@@ -119,6 +119,25 @@ accesses_cell (Fence rd rs1 imm) m c pc v first regs memory e k a g = absurd (cc
 accesses_cell Ecall m c pc v first regs memory e k a g = absurd (cc)
 accesses_cell Ebreak m c pc v first regs memory e k a g = absurd (cc)
 
+-- a word of a cell, at the cell's address, asks for its bytes
+pub asks_at : (i : Instr) (m : Motion) (c : Cell) (first regs : List ℕ) → motion_of (Some i) ≡ Some m → moves_cell (Some i) c.wide ≡ true → plus_offset (register regs m.base) m.offset ≡ address first c
+    → IsAccess (asks i regs) (address first c) (width_of c)
+asks_at (Load op rd rs1 imm) m c first regs e k a =
+    let q : record { base = rs1; offset = imm; width = load_width op; store = false } ≡ m = cc in
+    (subst (λ (n : Motion). plus_offset (register regs n.base) n.offset ≡ address first c) (sym q) a, ap load_width (load_is op c.wide k) ∙ load_wide c.wide)
+asks_at (Store op rs1 rs2 imm) m c first regs e k a =
+    let q : record { base = rs1; offset = imm; width = store_width op; store = true } ≡ m = cc in
+    (subst (λ (n : Motion). plus_offset (register regs n.base) n.offset ≡ address first c) (sym q) a, ap store_width (store_is op c.wide k) ∙ store_wide c.wide)
+asks_at (Alu op rd rs1 rs2) m c first regs e k a = absurd (cc)
+asks_at (AluImm op rd rs1 imm) m c first regs e k a = absurd (cc)
+asks_at (Upper op rd imm) m c first regs e k a = absurd (cc)
+asks_at (Branch op rs1 rs2 imm) m c first regs e k a = absurd (cc)
+asks_at (Jal rd imm) m c first regs e k a = absurd (cc)
+asks_at (Jalr rd rs1 imm) m c first regs e k a = absurd (cc)
+asks_at (Fence rd rs1 imm) m c first regs e k a = absurd (cc)
+asks_at Ecall m c first regs e k a = absurd (cc)
+asks_at Ebreak m c first regs e k a = absurd (cc)
+
 -- the offset of an access is short, and its register is one
 pub motion_range : (i : Instr) (m : Motion) → IsInRange i → motion_of (Some i) ≡ Some m → (m.base < 32) × IsSigned 32 m.offset
 motion_range (Load op rd rs1 imm) m d e = let q : record { base = rs1; offset = imm; width = load_width op; store = false } ≡ m = cc in subst (λ (n : Motion). (n.base < 32) × IsSigned 32 n.offset) q ((d.registers).1, d.number)

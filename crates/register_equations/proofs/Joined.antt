@@ -5,6 +5,7 @@ use Rattle.std.proofs.lemmas.Bool.{cases_eq, cases_lt}
 use Rattle.std.proofs.lemmas.Bool.Decides.{nat_tests}
 use Rattle.rv64_decode.specs.Registers.{register}
 use Rattle.rv64_decode.specs.Row.{asks}
+use Rattle.rv64_decode.specs.declared.outcome.Next.TheVariants.{At}
 use Rattle.linear_forms.specs.Forms.{Alike, LinearForm, EntryTerm, exact}
 use Rattle.loop_data.specs.declared.classes.Class.{Class}
 use Rattle.loop_data.specs.declared.classes.Classes.{Classes}
@@ -15,7 +16,7 @@ use Rattle.loop_data.specs.declared.shape.Level.{Level}
 use Rattle.loop_data.specs.Nests.{Nest, In, Among, Holds, IsNest, nest_of}
 use Rattle.loop_data.specs.LoopWords.{AreNest}
 use Rattle.loop_data.specs.declared.verdict.Cell.{Cell}
-use Rattle.loop_data.specs.Runs.{State, run, walk, asks_of, granted, access}
+use Rattle.loop_data.specs.Runs.{State, run, walk, instr, asks_of, granted, access}
 use Rattle.loop_data.specs.Locations.{CellMap, no_cells, first_cell, cell_at, address, width_of, held, moves_cell}
 use Rattle.loop_data.specs.LoopCode.{LoopCode, instr_among, code_of, any_writes, writes, IsUnwritten}
 use Rattle.loop_data.specs.Independent.{Role, Keeps, Moves, Private, IsAccess}
@@ -33,13 +34,13 @@ use Rattle.loop_data.specs.Results.{IsNestOf, IsUnconfirmed, IsLeastLocation, Ar
 use Rattle.loop_data.proofs.Tests.{is_eq, is_ne, yes_no}
 use Rattle.loop_data.proofs.Steps.{has_contains}
 use Rattle.loop_data.proofs.FactsExist.{facts_exist}
-use Rattle.loop_data.proofs.NestVisits.{AreGiven, are_given, here, holds_word, visit, executes_less}
+use Rattle.loop_data.proofs.NestVisits.{AreGiven, are_given, step_is, here, holds_word, executes_less}
 use Rattle.loop_data.proofs.FormWords.{Right}
-use Rattle.register_equations.specs.FormLaws.{AreSolved, MeetsDuties, MeetsListed, ResultLaw, ResultTurnsLaw}
+use Rattle.register_equations.specs.FormLaws.{AreSolved, MeetsDuties, MeetsListed, ResultLaw, ResultTurnsLaw, AccessTurnsLaw, AskLaw}
 use Rattle.register_equations.proofs.Solutions.{roles_solve}
 use Rattle.register_equations.proofs.Runs.{form_law}
 use Rattle.register_equations.proofs.FixedFacts.{fixed_facts}
-use Rattle.register_equations.proofs.CellAddresses.{found_at, accesses_cell, motion_range}
+use Rattle.register_equations.proofs.CellAddresses.{found_at, asks_at, accesses_cell, motion_range}
 
 low : (q : ℕ) → q < 32 → nat_lt q first_cell ≡ true
 low q l = grind (arith, nat_tests)
@@ -232,6 +233,9 @@ module _ (G : Graph) (ls : List Level) (nest : AreNest G ls) (words : AreProgram
       by_inner Private V h = let w = h.0 in absurd (yes_no (writes B w.word r) w.does (un w.word w.inside))
 
   module _ (V : ℕ → ℕ → Option Fact) (pass : AreFacts N (code_of G no_cells) N.root V) (found : AreFoundCells N B V) (none : e.unconfirmed ≡ None) where
+    given : AreGiven N B
+    given = are_given G ls nest C words
+
     cell_words : AreCellWords N.root B
     cell_words = record { uses = λ u k h q. let f = found u k h q in (f.cell, f.at, f.width) }
 
@@ -247,28 +251,43 @@ module _ (G : Graph) (ls : List Level) (nest : AreNest G ls) (words : AreProgram
         let b = low q l in
         subst (λ x. Alike (pos x) (exact f (entry_of C s) (times N s n))) (ap (λ t. if t then register (run s n).regs q else held s.regs (cell_at C.cells (q - first_cell)) (run s n).memory) b) (forms q f h)
 
-    -- the word of a visit from which the run goes on accesses the cell that it uses
-    at_cell : (s : State) (n k : ℕ) (x : Cell) → MeetsListed N B e.duties s (suc n) → HoldsAt N C at s n → C.uses (walk s n) ≡ Some k → cell_at C.cells k ≡ Some x
-        → IsAccess (access (run s n)) (address s.regs x) (width_of x)
-    at_cell s n k x listed held use_is cell_is =
-        let ex = listed.executes in
-        let inside = holds_word N B given s (suc n) ex n (omega arith) in
-        let v = visit N B given s (suc n) ex n (omega arith) in
+    -- where the forms hold, a word that uses a cell asks for the cell's bytes
+    pub asks_cell : (s : State) (n k : ℕ) (x : Cell) → Holds N.root (walk s n) → HoldsAt N C at s n → instr (run s n) ≡ B.instr (walk s n) → C.uses (walk s n) ≡ Some k → cell_at C.cells k ≡ Some x
+        → IsAccess (asks_of (instr (run s n)) (run s n).regs) (address s.regs x) (width_of x)
+    asks_cell s n k x inside held word use_is cell_is =
+        let w = given (walk s n) inside in
         let f = found (walk s n) k inside use_is in
         let same = same_cell f.cell x (sym f.at ∙ cell_is) in
-        let moves : motion_of (Some v.does) ≡ Some f.moves = subst (λ o. motion_of o ≡ Some f.moves) v.is f.is in
-        let range = motion_range v.does f.moves v.range moves in
+        let moves : motion_of (Some w.does) ≡ Some f.moves = subst (λ o. motion_of o ≡ Some f.moves) w.is f.is in
+        let range = motion_range w.does f.moves w.range moves in
         let right = register_right s n held (f.moves).base range.0 in
         let here_is = found_at N B (V (walk s n)) (at (walk s n)) (entry_of C s) (times N s n) s.regs (run s n).regs f.cell (f.moves).base (f.moves).offset (entry_is s)
         (fixed_facts N nest.nest (instr_among G.words) C V roles at pass (equations.forms N of) keeps (walk s n) inside (f.moves).base)
         right range.1 f.address f.base f.near in
-        let goes = sym (ap (λ (z : State). z.next) v.next) ∙ here N B given s (suc n) ex (suc n) (omega arith) in
-        let own = accesses_cell v.does f.moves f.cell (walk s n) (walk s (suc n)) s.regs (run s n).regs (run s n).memory moves (subst (λ o. moves_cell o (f.cell).wide ≡ true) v.is f.width) here_is goes in
-        let there : access (run s n) ≡ granted (run s n).memory (asks v.does (run s n).regs) = ap (λ o. granted (run s n).memory (asks_of o (run s n).regs)) (ex.words n (omega arith) ∙ v.is) in
+        let own = asks_at w.does f.moves f.cell s.regs (run s n).regs moves (subst (λ o. moves_cell o (f.cell).wide ≡ true) w.is f.width) here_is in
+        subst (λ c. IsAccess (asks_of (instr (run s n)) (run s n).regs) (address s.regs c) (width_of c)) same
+        (subst (λ o. IsAccess (asks_of o (run s n).regs) (address s.regs f.cell) (width_of f.cell)) (sym (word ∙ w.is)) own)
+
+    -- the word of a visit from which the run goes on accesses the cell that it uses
+    pub at_cell : (s : State) (n k v : ℕ) (x : Cell) → MeetsListed N B e.duties s n → HoldsAt N C at s n → instr (run s n) ≡ B.instr (walk s n) → (run s (suc n)).next ≡ At v → C.uses (walk s n) ≡ Some k → cell_at C.cells k ≡ Some x
+        → IsAccess (access (run s n)) (address s.regs x) (width_of x)
+    at_cell s n k v x listed held word goes use_is cell_is =
+        let ex = listed.executes in
+        let inside = holds_word N B given s n ex n (omega arith) in
+        let w = given (walk s n) inside in
+        let next = step_is (run s n) (walk s n) w.does (here N B given s n ex n (omega arith)) (word ∙ w.is) in
+        let f = found (walk s n) k inside use_is in
+        let same = same_cell f.cell x (sym f.at ∙ cell_is) in
+        let moves : motion_of (Some w.does) ≡ Some f.moves = subst (λ o. motion_of o ≡ Some f.moves) w.is f.is in
+        let range = motion_range w.does f.moves w.range moves in
+        let right = register_right s n held (f.moves).base range.0 in
+        let here_is = found_at N B (V (walk s n)) (at (walk s n)) (entry_of C s) (times N s n) s.regs (run s n).regs f.cell (f.moves).base (f.moves).offset (entry_is s)
+        (fixed_facts N nest.nest (instr_among G.words) C V roles at pass (equations.forms N of) keeps (walk s n) inside (f.moves).base)
+        right range.1 f.address f.base f.near in
+        let on = sym (ap (λ (z : State). z.next) next) ∙ goes in
+        let own = accesses_cell w.does f.moves f.cell (walk s n) v s.regs (run s n).regs (run s n).memory moves (subst (λ o. moves_cell o (f.cell).wide ≡ true) w.is f.width) here_is on in
+        let there : access (run s n) ≡ granted (run s n).memory (asks w.does (run s n).regs) = ap (λ o. granted (run s n).memory (asks_of o (run s n).regs)) (word ∙ w.is) in
         subst (λ c. IsAccess (access (run s n)) (address s.regs c) (width_of c)) same (subst (λ a. IsAccess a (address s.regs f.cell) (width_of f.cell)) (sym there) own)
-      where
-        given : AreGiven N B
-        given = are_given G ls nest C words
 
     less : (s : State) (n : ℕ) → MeetsListed N B e.duties s (suc n) → MeetsListed N B e.duties s n
     less s n listed = record {
@@ -293,7 +312,10 @@ module _ (G : Graph) (ls : List Level) (nest : AreNest G ls) (words : AreProgram
             by m k c (inl l) lt u q = before.1 m k c l u q
             by m k c (inr l) lt u q =
                 let z : n ≡ m = omega arith in
-                subst (λ j. C.uses (walk s j) ≡ Some k → IsAccess (access (run s j)) (address s.regs c) (width_of c)) z (λ w. at_cell s n k c listed before.0 w q) u
+                let ex = listed.executes in
+                let word = ex.words n (omega arith) in
+                let goes = here N B given s (suc n) ex (suc n) (omega arith) in
+                subst (λ j. C.uses (walk s j) ≡ Some k → IsAccess (access (run s j)) (address s.regs c) (width_of c)) z (λ w. at_cell s n k (walk s (suc n)) c (less s n listed) before.0 word goes w q) u
 
 pub result_law : ResultLaw
 result_law G ls nest words cells c e s n are =
@@ -304,3 +326,12 @@ result_turns_law G ls nest words cells c e s p are each = (
   λ n lt inside. (result_law G ls nest words cells c e s n are (each n lt inside)).0,
   λ n lt inside. (result_law G ls nest words cells c e s n are (each n lt inside)).1,
 )
+
+pub access_turns_law : AccessTurnsLaw
+access_turns_law G ls nest words cells c e s p are each n k v x lt inside word goes used is =
+    let listed = each n lt inside in
+    at_cell G ls nest words c e (cell_map cells) are.classes are.equations are.facts are.pass are.found are.confirmed s n k v x listed (result_law G ls nest words cells c e s n are listed).0 word goes used is
+
+pub ask_law : AskLaw
+ask_law G ls nest words cells c e s n k x are inside word held used is =
+    asks_cell G ls nest words c e (cell_map cells) are.classes are.equations are.facts are.pass are.found are.confirmed s n k x inside held word used is

@@ -17,3 +17,4 @@ pub mod CellAddresses
 pub mod Joined
 pub mod Exists
 pub mod Entries
+pub mod OneResult

@@ -1,6 +1,7 @@
 -- When the forms at the words of a nest are true of a run.
-use Rattle.std.specs.Prelude.{ℕ, ◌≡◌, ◌<◌, true, List, Option, Some, None, ℤ}
+use Rattle.std.specs.Prelude.{ℕ, suc, ◌≡◌, ◌<◌, true, List, Option, Some, None, ℤ}
 use Rattle.std.specs.List.{Contains}
+use Rattle.rv64_decode.specs.declared.outcome.Next.TheVariants.{At}
 use Rattle.linear_forms.specs.Forms.{LinearForm, exact}
 use Rattle.loop_data.specs.declared.cells.Cells.{Cells}
 use Rattle.loop_data.specs.declared.classes.Classes.{Classes}
@@ -8,17 +9,18 @@ use Rattle.loop_data.specs.declared.equations.Duty.{Duty}
 use Rattle.loop_data.specs.declared.equations.Equations.{Equations}
 use Rattle.loop_data.specs.declared.graph.Graph.{Graph}
 use Rattle.loop_data.specs.declared.shape.Level.{Level}
-use Rattle.loop_data.specs.Nests.{Nest, has, Among, nest_of, IsPass}
+use Rattle.loop_data.specs.declared.verdict.Cell.{Cell}
+use Rattle.loop_data.specs.Nests.{Nest, has, Among, nest_of, IsPass, Holds}
 use Rattle.loop_data.specs.LoopWords.{AreNest}
-use Rattle.loop_data.specs.Runs.{State, run, walk, goes_at}
+use Rattle.loop_data.specs.Runs.{State, run, walk, goes_at, instr, access, asks_of}
 use Rattle.loop_data.specs.Turns.{turn}
-use Rattle.loop_data.specs.Locations.{CellMap, no_cells}
+use Rattle.loop_data.specs.Locations.{CellMap, no_cells, cell_at, address, width_of}
 use Rattle.loop_data.specs.LoopCode.{LoopCode, code_of, any_writes, IsUnwritten}
-use Rattle.loop_data.specs.Independent.{Role, Keeps, Moves}
+use Rattle.loop_data.specs.Independent.{Role, Keeps, Moves, IsAccess}
 use Rattle.loop_data.specs.FormRows.{duty}
 use Rattle.loop_data.specs.Equations.{AreForms, IsConfirmed}
 use Rattle.loop_data.specs.Holds.{entry_of, times, HoldsAt, FormsHold}
-use Rattle.loop_data.specs.Lookups.{cell_map, form_at}
+use Rattle.loop_data.specs.Lookups.{cell_map, form_at, use_of}
 use Rattle.loop_data.specs.Facts.{Fact}
 use Rattle.loop_data.specs.FactPass.{AreFacts}
 use Rattle.loop_data.specs.FoundCells.{AreFoundCells}
@@ -105,3 +107,26 @@ ResultTurnsLaw = (G : Graph) (levels : List Level) (nest : AreNest G levels) →
     → FormsHold N (cell_map cells) (form_at e.points) s p
     × ((n : ℕ) → turn N.root s n < p → goes_at (has N.root.body) (run s n).next ≡ true
     → AreAtCells (cell_map cells) s n)
+
+-- and there each word that uses a cell, where the run executes it and goes on, accesses the cell's bytes and no others:
+-- also at the last visit of the turns
+abbrev pub AccessTurnsLaw : Type 0
+AccessTurnsLaw = (G : Graph) (levels : List Level) (nest : AreNest G levels) → AreProgramWords G →
+    let N = nest_of G nest.root nest.inner in
+    (cells : Cells) →
+    let B = code_of G (cell_map cells) in
+    (c : Classes) (e : Equations) (s : State) (p : ℕ) → AreResults G levels N cells c e
+    → ((n : ℕ) → turn N.root s n < p → goes_at (has N.root.body) (run s n).next ≡ true → MeetsListed N B e.duties s n)
+    → (n k v : ℕ) (x : Cell) → turn N.root s n < p → goes_at (has N.root.body) (run s n).next ≡ true
+    → instr (run s n) ≡ B.instr (walk s n) → (run s (suc n)).next ≡ At v → use_of cells.uses.items (walk s n) ≡ Some k
+    → cell_at cells.list.items k ≡ Some x → IsAccess (access (run s n)) (address s.regs x) (width_of x)
+
+-- where the forms hold at the visit of a word that uses a cell, it asks memory for the cell's bytes and no others
+abbrev pub AskLaw : Type 0
+AskLaw = (G : Graph) (levels : List Level) (nest : AreNest G levels) → AreProgramWords G →
+    let N = nest_of G nest.root nest.inner in
+    (cells : Cells) (c : Classes) (e : Equations) (s : State) (n k : ℕ) (x : Cell) → AreResults G levels N cells c e
+    → Holds N.root (walk s n) → instr (run s n) ≡ (code_of G (cell_map cells)).instr (walk s n)
+    → HoldsAt N (cell_map cells) (form_at e.points) s n → use_of cells.uses.items (walk s n) ≡ Some k
+    → cell_at cells.list.items k ≡ Some x
+    → IsAccess (asks_of (instr (run s n)) (run s n).regs) (address s.regs x) (width_of x)

@@ -3,3 +3,4 @@ pub mod Rows
 pub mod States
 pub mod OneSolution
 pub mod Astray
+pub mod OneResult
