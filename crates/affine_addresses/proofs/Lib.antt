@@ -1,3 +1,4 @@
 pub mod AccessLists
 pub mod Listed
 pub mod Values
+pub mod OneList

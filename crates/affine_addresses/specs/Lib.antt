@@ -1,3 +1,4 @@
 pub mod Lists
 pub mod AddressLaws
 pub mod Worked
+pub mod OneList

@@ -29,3 +29,14 @@ pub fn worked_addresses()
     ensures twice_inside { addressed (record (pointer (pos 8) (pos 0)) { third = pos 12 }) 10 (pos 0) Eight ≡ None }
     ensures no_form { addressed (pointer (pos 8) (pos 0)) 11 (pos 0) Eight ≡ None }
 {}
+
+ghost use Rattle.affine_addresses.specs.OneList.{OneListLaw, OneKeptListLaw, OneIrregularLaw, NoneIrregularLaw};
+
+/// What is found of the accesses of a loop is determined by its definition: the list of them, or the least word that
+/// accesses an address which is not regular.
+pub fn one_list_of_accesses()
+    ensures list { OneListLaw }
+    ensures kept { OneKeptListLaw }
+    ensures irregular { OneIrregularLaw }
+    ensures none { NoneIrregularLaw }
+{}

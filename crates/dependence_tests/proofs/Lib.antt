@@ -7,3 +7,4 @@ pub mod Failing
 pub mod Distances
 pub mod Separating
 pub mod Places
+pub mod OneTerm

@@ -13,7 +13,7 @@ use Rattle.dependence_tests.specs.PairTests.{span, are_blocks, are_lanes, remain
 use Rattle.dependence_tests.specs.Overlaps.{whole_range, IsBoxOf}
 use Rattle.dependence_tests.specs.Separation.{root_size, inner_sizes, greater_width, reach, AreApart, AreDisjoint, PassTest, AreHopeless}
 
-one_gcd : (ns : List ℕ) (g h : ℕ) → IsGcdOf ns g → IsGcdOf ns h → g ≡ h
+pub one_gcd : (ns : List ℕ) (g h : ℕ) → IsGcdOf ns g → IsGcdOf ns h → g ≡ h
 one_gcd ns g h p q = dvd_antisymm (q.greatest g p.divides) (p.greatest h q.divides)
 
 any : (a b c d : Bool) → (a ≡ true) ⊎ ((b ≡ true) ⊎ ((c ≡ true) ⊎ (d ≡ true))) → ((a || b) || (c || d)) ≡ true

@@ -5,3 +5,4 @@ pub mod Worked
 pub mod Hopeless
 pub mod Known
 pub mod Separation
+pub mod OneTerm

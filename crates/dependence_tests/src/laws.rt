@@ -81,3 +81,10 @@ pub fn worked_hopeless()
     ensures unknown { hopeless (strided 8 0 8 None) ≡ false }
     ensures other_shape { hopeless Apart ≡ false }
 {}
+
+ghost use Rattle.dependence_tests.specs.OneTerm.{OneTermLaw};
+
+/// What two accesses have in common before a loop begins is determined by their forms, widths and loops.
+pub fn one_term()
+    ensures { OneTermLaw }
+{}

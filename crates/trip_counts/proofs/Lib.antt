@@ -3,3 +3,4 @@ pub mod Numbers
 pub mod Told
 pub mod Exits
 pub mod Turns
+pub mod OneTrip

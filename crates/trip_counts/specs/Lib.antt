@@ -1,2 +1,3 @@
 pub mod TripLaws
 pub mod Worked
+pub mod OneTrip

@@ -77,3 +77,10 @@ pub fn worked_numbers()
     ensures at_least { number AtLeast true (pos 16) (negsuc 7) (pos 0) ≡ Some 3 }
     ensures at_least_wraps { number AtLeast false (pos 16) (negsuc 7) (pos 0) ≡ None }
 {}
+
+ghost use Rattle.trip_counts.specs.OneTrip.{OneTripLaw};
+
+/// Whether a loop has a trip, and which, is determined by the forms at the words of its nest.
+pub fn one_trip()
+    ensures { OneTripLaw }
+{}
