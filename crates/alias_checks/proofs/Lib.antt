@@ -10,3 +10,4 @@ pub mod Facts
 pub mod Paired
 pub mod Holding
 pub mod InTurns
+pub mod OneList

@@ -9,3 +9,4 @@ pub mod Listing
 pub mod BoundsLaws
 pub mod Holds
 pub mod Values
+pub mod OneList

@@ -10,7 +10,7 @@ ghost use Rattle.alias_checks.specs.Holds.{HoldsLaw};
 ghost use Rattle.alias_checks.specs.Values.{DutyLaw, AddressLaw};
 ghost use Rattle.alias_checks.specs.Worked.{four, entered, below, told, two_areas, range, everywhere, cell, owing, up_to_turn, access, vadd, rows, room, still, standing};
 
-use dependence_tests::laws::terms_tell_of_accesses;
+use dependence_tests::laws::{one_term, terms_tell_of_accesses};
 
 /// The bounds in a check are those of the areas of memory, from the start of an executable on.
 pub fn bounds_tell_areas()
@@ -139,3 +139,12 @@ pub fn worked_rows()
     ensures a_pass_more { answer rows (four 0 16 0 10) (room 4096 true) ≡ None }
     ensures one_pass { answer rows (four 0 16 9 9) (room 1208 true) ≡ told 16 1 }
 {}
+
+ghost use Rattle.alias_checks.specs.OneList.{OnePairsLaw};
+
+/// The pairs of a check are determined by its accesses: which two they are of, and what these have in common.
+pub fn one_list_of_pairs()
+    ensures { OnePairsLaw }
+{
+    one_term();
+}
