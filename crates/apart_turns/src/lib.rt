@@ -1,0 +1,4 @@
+//! What a held check says of the bytes that turns touch.
+#![tactic(auto)]
+
+pub mod laws;
