@@ -43,3 +43,4 @@ pub mod PlaceCycles
 pub mod Targets
 pub mod AddressLists
 pub mod OuterLoops
+pub mod PairRows

@@ -11,11 +11,11 @@ use Rattle.loop_data.specs.Bodies.{IsClosed, InPart, InBody}
 use Rattle.loop_shapes.specs.Net.{IsPart}
 use Rattle.loop_data.specs.Shape.{IsInner}
 use Rattle.loop_data.specs.Starts.{AreFromStarts}
-use Rattle.loop_shapes.specs.Around.{entry_at, GivesWay, IsSettled, IsDone, LiesRight, IsExtremalSoFar, AreExtremalSoFar, IsExtremalLoop, AreExtremalLoops}
+use Rattle.loop_shapes.specs.Around.{entry_at, GivesWay, IsSettled, IsDone, IsMade, LiesRight, IsExtremalSoFar, AreExtremalSoFar, IsExtremalLoop, AreExtremalLoops}
 use Rattle.loop_data.proofs.Lists.{In, to_in, from_in}
 use Rattle.loop_shapes.proofs.Rows.{none_in, same_place}
 use Rattle.loop_shapes.proofs.Parts.{word_at, place_of_source, place_of_word}
-use Rattle.loop_shapes.proofs.Nesting.{meet, within, same_loop, one_within}
+use Rattle.loop_shapes.proofs.Nesting.{meet, nested, within, same_loop, one_within}
 use Rattle.loop_shapes.specs.Lines.{IsRowOf}
 
 pub no_rounds : (G : Graph) (inner : Bool) (entries : List (Option ℕ)) → entries ≡ replicate (count_of G) None → AreExtremalSoFar G inner 0 [] entries
@@ -67,7 +67,7 @@ module _ (G : Graph) (all : AreFromStarts G) (up : IsInOrder G) where
       let a = p.1.every (at G i) q in
       subst (Contains found) (same_place (addresses G) up a.place i (p.1.each a.place a.among).0 l a.is) a.among
 
-  module _ (header u : ℕ) (found row row' : List ℕ) (old new : List (Option ℕ)) (lh : header < count_of G) (c : IsClosed G (at G header) (at G u)) (p : IsPart G header u found) (grown : (v : ℕ) → Contains row' v → Contains row v ⊎ (v ≡ u)) where
+  module _ (header u : ℕ) (found row row' : List ℕ) (old new : List (Option ℕ)) (lh : header < count_of G) (c : IsClosed G (at G header) (at G u)) (p : IsPart G header u found) (grown : (v : ℕ) → Contains row' v → Contains row v ⊎ (v ≡ u)) (more : (v : ℕ) → Contains row v → Contains row' v) (last : Contains row' u) where
     -- an edge that is done was done before or is the new one
     split : (h v : ℕ) → IsDone G header row' h v → IsDone G header row h v ⊎ ((h ≡ header) × (v ≡ u))
     split h v (inl d) = inl (inl d)
@@ -76,6 +76,14 @@ module _ (G : Graph) (all : AreFromStarts G) (up : IsInOrder G) where
         by : Contains row v ⊎ (v ≡ u) → IsDone G header row h v ⊎ ((h ≡ header) × (v ≡ u))
         by (inl m) = inl (inr (d.0, m))
         by (inr e) = inr (d.0, e)
+
+    -- and what was done before is done
+    keep : (h v : ℕ) → IsDone G header row h v → IsDone G header row' h v
+    keep h v (inl d) = inl d
+    keep h v (inr d) = inr (d.0, more v d.1)
+
+    made_still : (i m : ℕ) → IsMade G header row i m → IsMade G header row' i m
+    made_still i m k = record { source = k.source; done = keep m k.source k.done; closed = k.closed; part = k.part }
 
     own : InBody G (at G header) (at G header)
     own = record { source = at G u; closed = c; part = inl refl }
@@ -125,7 +133,7 @@ module _ (G : Graph) (all : AreFromStarts G) (up : IsInOrder G) where
 
       -- what stood there before stays
       stays : (i m : ℕ) → i < count_of G → entry_at old i ≡ Some m → ((h v : ℕ) → (h ≡ header) × (v ≡ u) → InPart G (at G h) (at G v) (at G i) → LiesRight G inner (at G m) (at G header)) → IsExtremalSoFar G inner header row' i m
-      stays i m l e new_edge = record { place = r.place; holds = r.holds; order = λ h v d q. by h v q (split h v d) }
+      stays i m l e new_edge = record { place = r.place; holds = r.holds; made = made_still i m r.made; order = λ h v d q. by h v q (split h v d) }
         where
           r : IsExtremalSoFar G inner header row i m
           r = a.some i m l e
@@ -136,7 +144,7 @@ module _ (G : Graph) (all : AreFromStarts G) (up : IsInOrder G) where
 
       -- the new loop takes its place
       taken : (i : ℕ) → i < count_of G → Contains found i → GivesWay inner found (entry_at old i) → IsExtremalSoFar G inner header row' i header
-      taken i l f g = record { place = lh; holds = in_body i f; order = λ h v d q. by h v q (split h v d) (standing (entry_at old i)) }
+      taken i l f g = record { place = lh; holds = in_body i f; made = record { source = u; done = inr (refl, last); closed = c; part = (p.1.each i f).1 }; order = λ h v d q. by h v q (split h v d) (standing (entry_at old i)) }
         where
           by : (h v : ℕ) → InPart G (at G h) (at G v) (at G i) → IsDone G header row h v ⊎ ((h ≡ header) × (v ≡ u)) → Standing (entry_at old i) → LiesRight G inner (at G header) (at G h)
           by h v q (inr e) o = moved header h e.0 (right_of_own inner)
@@ -196,10 +204,55 @@ module _ (G : Graph) (all : AreFromStarts G) (up : IsInOrder G) where
       pub rounds_more : AreExtremalSoFar G inner header row' new
       rounds_more = record { count = s.count ∙ a.count; none = λ i h v l e d q. none_at i h v l e d q (decide found i); some = λ i m l e. some_at i m l e (decide found i) }
 
+    -- where the outermost loop round the header stays, it stays round each word: that loop has them all
+    module _ (a : AreExtremalSoFar G false header row old) where
+      moved_part : (i h v : ℕ) → (h ≡ header) × (v ≡ u) → InPart G (at G h) (at G v) (at G i) → InPart G (at G header) (at G u) (at G i)
+      moved_part i h v e q = subst (λ (z : ℕ). InPart G (at G header) (at G z) (at G i)) e.1 (subst (λ (z : ℕ). InPart G (at G z) (at G v) (at G i)) e.0 q)
+
+      wider : (m : ℕ) → entry_at old header ≡ Some m → ¬ Contains found m → AreExtremalSoFar G false header row' old
+      wider m q n = record { count = a.count; none = λ i h v l e d x. none_at i h v l e x (split h v d); some = some_at }
+        where
+          r : IsExtremalSoFar G false header row header m
+          r = a.some header m lh q
+
+          other : at G header ≢ at G m
+          other f = n (subst (Contains found) (same_place (addresses G) up header m lh r.place f) (found_at header u found p header lh (inl refl)))
+
+          inside : (i : ℕ) → InPart G (at G header) (at G u) (at G i) → InPart G (at G m) (at G r.made.source) (at G i)
+          inside i x = nested G all (at G header) (at G u) (at G m) (at G r.made.source) (at G i) c r.made.closed other r.made.part x
+
+          none_at : (i h v : ℕ) → i < count_of G → entry_at old i ≡ None → InPart G (at G h) (at G v) (at G i) → IsDone G header row h v ⊎ ((h ≡ header) × (v ≡ u)) → ⊥
+          none_at i h v l e x (inl d) = a.none i h v l e d x
+          none_at i h v l e x (inr d) = a.none i m r.made.source l e r.made.done (inside i (moved_part i h v d x))
+
+          some_at : (i k : ℕ) → i < count_of G → entry_at old i ≡ Some k → IsExtremalSoFar G false header row' i k
+          some_at i k l e = record { place = s.place; holds = s.holds; made = made_still i k s.made; order = λ h v d x. by h v x (split h v d) }
+            where
+              s : IsExtremalSoFar G false header row i k
+              s = a.some i k l e
+
+              by : (h v : ℕ) → InPart G (at G h) (at G v) (at G i) → IsDone G header row h v ⊎ ((h ≡ header) × (v ≡ u)) → InBody G (at G k) (at G h)
+              by h v x (inl d) = s.order h v d x
+              by h v x (inr d) = subst (λ (z : ℕ). InBody G (at G k) (at G z)) (sym d.0) (within G all (at G m) (at G k) (at G header) (s.order m r.made.source r.made.done (inside i (moved_part i h v d x))) r.holds)
+
+      pub rounds_wider : ¬ GivesWay false found (entry_at old header) → AreExtremalSoFar G false header row' old
+      rounds_wider g = by (standing (entry_at old header))
+        where
+          by : Standing (entry_at old header) → AreExtremalSoFar G false header row' old
+          by (nobody e) = absurd (g (subst (GivesWay false found) (sym e) tt))
+          by (somebody m e) = wider m e (λ f. g (subst (GivesWay false found) (sym e) f))
+
   -- all edges to a word are done
   pub rounds_next : (inner : Bool) (header : ℕ) (row : List ℕ) (entries : List (Option ℕ)) → IsRowOf G (IsClosed G) header row → AreExtremalSoFar G inner header row entries → AreExtremalSoFar G inner (header + 1) [] entries
-  rounds_next inner header row entries c a = record { count = a.count; none = λ i h u l e d. a.none i h u l e (before h u d); some = λ i m l e. let r = a.some i m l e in record { place = r.place; holds = r.holds; order = λ h u d. r.order h u (before h u d) } }
+  rounds_next inner header row entries c a = record { count = a.count; none = λ i h u l e d. a.none i h u l e (before h u d); some = λ i m l e. let r = a.some i m l e in record { place = r.place; holds = r.holds; made = record { source = r.made.source; done = after m r.made.source r.made.done; closed = r.made.closed; part = r.made.part }; order = λ h u d. r.order h u (before h u d) } }
     where
+      after : (h u : ℕ) → IsDone G header row h u → IsDone G (header + 1) [] h u
+      after h u (inl d) = let l = d.0 in inl (omega arith, d.1, d.2)
+      after h u (inr d) =
+          let k = d.0 in
+          let s = c.each u d.1 in
+          inl (omega arith, s.0, subst (λ (z : ℕ). IsClosed G (at G z) (at G u)) (sym d.0) s.1)
+
       before : (h u : ℕ) → IsDone G (header + 1) [] h u → IsDone G header row h u
       before h u (inr d) = none_in u d.1
       before h u (inl d) = by (cases_lt h header)

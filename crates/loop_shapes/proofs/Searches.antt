@@ -1,5 +1,5 @@
 -- The steps of a search backwards.
-use Rattle.std.proofs.Common.{◌≡◌, ◌≢◌, ℕ, ◌+◌, ◌<◌, ◌≤◌, ◌⊎◌, inl, inr, Bool, true, false, List, [], ◌∷◌, ◌++◌, length, get_or, take, refl, ap, sym, ◌∙◌, subst, arith}
+use Rattle.std.proofs.Common.{◌≡◌, ◌≢◌, ℕ, ◌+◌, ◌<◌, ◌≤◌, ◌⊎◌, ◌↔◌, inl, inr, Bool, true, false, List, [], ◌∷◌, ◌++◌, length, get_or, take, refl, ap, sym, ◌∙◌, subst, arith}
 use Rattle.std.specs.List.{Contains}
 use Rattle.std.proofs.lemmas.Bool.{cases_eq, cases_lt, false≢true}
 use Rattle.std.proofs.lemmas.List.{get_or_append_left, get_or_push, length_push, get_or_default, take_more, get_or-take, length-take-le}
@@ -40,7 +40,7 @@ room_pushed old new slots x le ne e i =
     pushed : Grown old (x ∷ []) (old ++ x ∷ [])
     pushed =
         let n = length_push old x in
-        record { longer = omega arith; few = omega arith; same = λ k l. get_or_append_left old (x ∷ []) 0 k l; each = each; every = λ y c. subst (Contains (old ++ x ∷ [])) (alone x y c) (Contains-push old x) }
+        record { longer = omega arith; same = λ k l. get_or_append_left old (x ∷ []) 0 k l; each = each; every = λ y c. subst (Contains (old ++ x ∷ [])) (alone x y c) (Contains-push old x) }
       where
         each : (y : ℕ) → Contains (old ++ x ∷ []) y → Contains old y ⊎ Contains (x ∷ []) y
         each y c = by (Contains-push_cases old x y c)
@@ -50,7 +50,7 @@ room_pushed old new slots x le ne e i =
             by (inr e) = inr (from_in (x ∷ []) y (inl e))
 
 pub full_at : (old slots : List ℕ) (x : ℕ) → length old ≡ 256 → (Contains old x → ⊥) → IsIndexed old slots → HasNoRoom old (x ∷ []) old slots
-full_at old slots x n absent i = record { full = record { count = n; few = omega arith; each = λ y c. inl c; extra = x; among = from_in (x ∷ []) x (inl refl); absent = absent }; indexed = i }
+full_at old slots x n absent i = record { full = record { count = n; each = λ y c. inl c; extra = x; among = from_in (x ∷ []) x (inl refl); absent = absent }; indexed = i }
 
 -- what is among the first numbers and the next is among them all
 first_of_all : (xs : List ℕ) (i : ℕ) → i < length xs → (y : ℕ) → Contains (take i xs) y ⊎ Contains (get_or xs i 0 ∷ []) y → Contains (take (i + 1) xs) y
@@ -81,13 +81,9 @@ pub room_more : (old xs mid new slots slots' : List ℕ) (i : ℕ) → i < lengt
 room_more old xs mid new slots slots' i l a b =
     let A = a.grown in
     let B = b.grown in
-    let m = length-take-le i xs (omega arith) in
-    let n = length-take-le (i + 1) xs (omega arith) in
     let al = A.longer in
     let bl = B.longer in
-    let af = A.few in
-    let bf = B.few in
-    record { grown = record { longer = omega arith; few = omega arith; same = λ k q. B.same k (omega arith) ∙ A.same k q; each = λ y c. on_right (first_of_all xs i l y) (regroup (on_left (A.each y) (B.each y c))); every = λ y c. by y (split y c) }; bound = b.bound; indexed = b.indexed }
+    record { grown = record { longer = omega arith; same = λ k q. B.same k (omega arith) ∙ A.same k q; each = λ y c. on_right (first_of_all xs i l y) (regroup (on_left (A.each y) (B.each y c))); every = λ y c. by y (split y c) }; bound = b.bound; indexed = b.indexed }
   where
     split : (y : ℕ) → Contains (take (i + 1) xs) y → Contains (take i xs) y ⊎ (get_or xs i 0 ≡ y)
     split y c = Contains-push_cases (take i xs) (get_or xs i 0) y (rw (take_more xs i 0 l) at c)
@@ -100,10 +96,36 @@ pub full_more : (old xs mid new slots slots' : List ℕ) (i : ℕ) → i < lengt
 full_more old xs mid new slots slots' i l a b =
     let A = a.grown in
     let F = b.full in
-    let m = length-take-le i xs (omega arith) in
-    let af = A.few in
-    let bf = F.few in
-    record { full = record { count = F.count; few = omega arith; each = λ y c. on_right (among_all xs i l y) (regroup (on_left (A.each y) (F.each y c))); extra = F.extra; among = among_all xs i l F.extra (inr F.among); absent = F.absent }; indexed = b.indexed }
+    record { full = record { count = F.count; each = λ y c. on_right (among_all xs i l y) (regroup (on_left (A.each y) (F.each y c))); extra = F.extra; among = among_all xs i l F.extra (inr F.among); absent = F.absent }; indexed = b.indexed }
+
+-- of the same numbers in another order, or some of them twice
+pub room_as : (old xs ys new slots : List ℕ) → ((x : ℕ) → Contains ys x ↔ Contains xs x) → HasRoom old xs new slots → HasRoom old ys new slots
+room_as old xs ys new slots same a = record { grown = record { longer = a.grown.longer; same = a.grown.same; each = λ y c. on_right (same y).1 (a.grown.each y c); every = λ y c. a.grown.every y ((same y).0 c) }; bound = a.bound; indexed = a.indexed }
+
+pub full_as : (old xs ys new slots : List ℕ) → ((x : ℕ) → Contains ys x ↔ Contains xs x) → HasNoRoom old xs new slots → HasNoRoom old ys new slots
+full_as old xs ys new slots same a = record { full = record { count = a.full.count; each = λ y c. on_right (same y).1 (a.full.each y c); extra = a.full.extra; among = (same a.full.extra).1 a.full.among; absent = a.full.absent }; indexed = a.indexed }
+
+pub tried_as : (room : Bool) (old xs ys new slots : List ℕ) → ((x : ℕ) → Contains ys x ↔ Contains xs x) → HasTried room old xs new slots → HasTried room old ys new slots
+tried_as true old xs ys new slots same a = room_as old xs ys new slots same a
+tried_as false old xs ys new slots same a = full_as old xs ys new slots same a
+
+-- a second number after the first
+pub room_two : (old mid new slots slots' : List ℕ) (a b : ℕ) → HasRoom old (a ∷ []) mid slots → HasRoom mid (b ∷ []) new slots' → HasRoom old (a ∷ b ∷ []) new slots'
+room_two old mid new slots slots' a b p q = room_more old (a ∷ b ∷ []) mid new slots slots' 1 (omega arith) p q
+
+pub full_two : (old mid new slots slots' : List ℕ) (a b : ℕ) → HasRoom old (a ∷ []) mid slots → HasNoRoom mid (b ∷ []) new slots' → HasNoRoom old (a ∷ b ∷ []) new slots'
+full_two old mid new slots slots' a b p q = full_more old (a ∷ b ∷ []) mid new slots slots' 1 (omega arith) p q
+
+pub tried_two : (room : Bool) (old mid new slots slots' : List ℕ) (a b : ℕ) → HasRoom old (a ∷ []) mid slots → HasTried room mid (b ∷ []) new slots' → HasTried room old (a ∷ b ∷ []) new slots'
+tried_two true old mid new slots slots' a b p q = room_two old mid new slots slots' a b p q
+tried_two false old mid new slots slots' a b p q = full_two old mid new slots slots' a b p q
+
+-- where there is no room for the first
+pub full_first : (old new slots : List ℕ) (a b : ℕ) → HasNoRoom old (a ∷ []) new slots → HasNoRoom old (a ∷ b ∷ []) new slots
+full_first old new slots a b p = record { full = record { count = p.full.count; each = λ y c. on_right (first y) (p.full.each y c); extra = p.full.extra; among = first p.full.extra p.full.among; absent = p.full.absent }; indexed = p.indexed }
+  where
+    first : (y : ℕ) → Contains (a ∷ []) y → Contains (a ∷ b ∷ []) y
+    first y c = from_in (a ∷ b ∷ []) y (inl (alone a y c))
 
 pub tried_room : (old xs new slots : List ℕ) (room : Bool) → room ≡ true → HasTried room old xs new slots → HasRoom old xs new slots
 tried_room old xs new slots true e a = a

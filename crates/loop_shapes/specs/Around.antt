@@ -33,10 +33,18 @@ IsDone G header row h u = ((h < header) × (u < count_of G) × IsClosed G (at G 
 abbrev pub LiesRight : Graph → Bool → ℕ → ℕ → Type 0
 LiesRight G inner m k = MatchBool inner (InBody G k m) (InBody G m k)
 
+-- one of those edges puts the word at i into the loop at m
+pub record IsMade (G : Graph) (header : ℕ) (row : List ℕ) (i m : ℕ) : Type 0 where
+  pub source : ℕ
+  pub done : IsDone G header row m source
+  pub closed : IsClosed G (at G m) (at G source)
+  pub part : InPart G (at G m) (at G source) (at G i)
+
 -- of the loops round the word at i that those edges make, m is the innermost or outermost
 pub record IsExtremalSoFar (G : Graph) (inner : Bool) (header : ℕ) (row : List ℕ) (i m : ℕ) : Type 0 where
   pub place : m < count_of G
   pub holds : InBody G (at G m) (at G i)
+  pub made : IsMade G header row i m
   pub order : (h u : ℕ) → IsDone G header row h u → InPart G (at G h) (at G u) (at G i)
       → LiesRight G inner (at G m) (at G h)
 

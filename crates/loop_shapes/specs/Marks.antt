@@ -5,16 +5,22 @@ use Rattle.std.specs.List.{Contains}
 use Rattle.loop_data.specs.declared.graph.Graph.{Graph}
 use Rattle.loop_shapes.specs.declared.kind.Kind.TheVariants.{Calls, Asks, JumpsAnywhere, IsNothing}
 use Rattle.loop_shapes.specs.declared.marks.Marks.{Marks}
+use Rattle.loop_shapes.specs.declared.nest.NestFlags.{NestFlags}
 use Rattle.loop_data.specs.Bodies.{IsHeader}
 use Rattle.loop_shapes.specs.Kinds.{HasKind}
-use Rattle.loop_shapes.specs.Outer.{AreKnown, IsClean, IsUnsound}
+use Rattle.loop_shapes.specs.Outer.{AreKnown, IsClean, IsCrowded, IsUnsound}
 use Rattle.loop_shapes.specs.Places.{AreFlags, at}
 use Rattle.loop_data.specs.Sets.{IsLeast}
 use Rattle.loop_data.specs.Shape.{IsShaped}
 use Rattle.loop_data.specs.Flows.{IsSet}
 
--- the flags of the words by what they do, of the loops that have not the shape, and of outermost loops
--- that are clean
+-- at which words loops stand that have the shape, whatever their inner loops have, and at which crowded nests
+pub record AreNestFlags (G : Graph) (f : NestFlags) : Type 0 where
+  pub shaped : AreFlags G (IsShaped G) f.shaped.items
+  pub crowded : AreKnown G (IsCrowded G) f.crowded.items
+
+-- the flags of the words by what they do, of the loops that have not the shape, of outermost loops that are
+-- clean, and of crowded nests
 pub record AreWordMarks (G : Graph) (m : Marks) : Type 0 where
   pub calls : AreFlags G (HasKind Calls G) m.calls.items
   pub asks : AreFlags G (HasKind Asks G) m.asks.items
@@ -22,6 +28,7 @@ pub record AreWordMarks (G : Graph) (m : Marks) : Type 0 where
   pub nothing : AreFlags G (HasKind IsNothing G) m.nothing.items
   pub unsound : AreFlags G (IsUnsound G) m.unsound.items
   pub clean : AreKnown G (IsClean G) m.clean.items
+  pub crowded : AreKnown G (IsCrowded G) m.crowded.items
 
 -- one of two places, or the only one there is, that is not behind the other
 abbrev pub lesser_of : Option ℕ → ℕ → ℕ

@@ -7,6 +7,7 @@ use Rattle.loop_data.specs.Paths.{addresses, IsInOrder}
 use Rattle.loop_shapes.specs.Places.{HasPredecessors, AreFlags, count_of, at}
 use Rattle.loop_data.specs.Bodies.{InPart, IsClosed, InBody}
 use Rattle.loop_data.specs.Sets.{HasAtMost}
+use Rattle.loop_shapes.specs.Search.{ArePairs}
 use Rattle.loop_data.specs.Starts.{AreFromStarts}
 use Rattle.loop_data.specs.Flows.{rows}
 
@@ -19,6 +20,7 @@ pub record IsNet (n : Net) : Type 0 where
   pub ordered : IsInOrder (graph_of n)
   pub addresses_are : n.at.items ≡ addresses (graph_of n)
   pub sources : HasPredecessors (graph_of n) (count_of (graph_of n)) (rows n.before.items)
+  pub pairs : ArePairs (rows n.before.items) n.pairs.items
   pub starts : AreFlags (graph_of n) (Contains (graph_of n).starts) n.starts.items
   pub from_starts : AreFromStarts (graph_of n)
 

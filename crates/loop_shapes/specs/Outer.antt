@@ -4,7 +4,8 @@ use Rattle.loop_data.specs.declared.graph.Graph.{Graph}
 use Rattle.loop_data.specs.Bodies.{InBody, IsHeader}
 use Rattle.loop_data.specs.Early.{IsMisshapen, IsPlain}
 use Rattle.loop_data.specs.Flows.{IsSet}
-use Rattle.loop_data.specs.Shape.{HasShape, IsForward, IsOnCycle}
+use Rattle.loop_data.specs.Sets.{HasAtMost}
+use Rattle.loop_data.specs.Shape.{HasShape, InNest, IsForward, IsOnCycle}
 use Rattle.loop_shapes.specs.Places.{at, count_of}
 
 -- where a flag is set this is known of the loop there
@@ -32,6 +33,11 @@ pub record IsClean (G : Graph) (h : ℕ) : Type 0 where
 pub record IsUnsound (G : Graph) (x : ℕ) : Type 0 where
   pub header : IsHeader G x
   pub shape : ¬ HasShape G x
+
+-- the loop at h has at most 256 words, and its nest more than 4 loops
+pub record IsCrowded (G : Graph) (h : ℕ) : Type 0 where
+  pub short : HasAtMost 256 (InBody G h)
+  pub loops : ¬ HasAtMost 4 (InNest G h)
 
 -- no loop that has not the shape stands at h
 abbrev pub IsSound : Graph → ℕ → Type 0

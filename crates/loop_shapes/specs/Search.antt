@@ -1,5 +1,6 @@
 -- A search backwards along step edges, over places.
-use Rattle.std.specs.Prelude.{ℕ, ◌≡◌, ◌≢◌, ◌<◌, ◌≤◌, ◌+◌, ◌⊎◌, Bool, MatchBool, List, length, slice_index}
+use Rattle.std.specs.Prelude.{ℕ, ◌≡◌, ◌≢◌, ◌<◌, ◌≤◌, ◌⊎◌, ◌↔◌, ◌∷◌, [], Bool, MatchBool, Option, Some, None, List, length}
+use Rattle.std.specs.Prelude.{slice_index, slice_index_or}
 use Rattle.std.specs.List.{Contains}
 use Rattle.loop_data.specs.Paths.{Reaches}
 use Rattle.loop_shapes.specs.Sets.{HasOver}
@@ -14,7 +15,6 @@ pub record IsIndexed (found slots : List ℕ) : Type 0 where
 -- the numbers found before, in their places, and those of xs
 pub record Grown (old xs new : List ℕ) : Type 0 where
   pub longer : length old ≤ length new
-  pub few : length new ≤ length old + length xs
   pub same : (k : ℕ) → k < length old → slice_index new k ≡ slice_index old k
   pub each : (y : ℕ) → Contains new y → Contains old y ⊎ Contains xs y
   pub every : (y : ℕ) → Contains xs y → Contains new y
@@ -22,7 +22,6 @@ pub record Grown (old xs new : List ℕ) : Type 0 where
 -- 256 numbers found, and one more among xs
 pub record IsFull (old xs found : List ℕ) : Type 0 where
   pub count : length found ≡ 256
-  pub few : length found ≤ length old + length xs
   pub each : (y : ℕ) → Contains found y → Contains old y ⊎ Contains xs y
   pub extra : ℕ
   pub among : Contains xs extra
@@ -40,6 +39,16 @@ pub record HasNoRoom (old xs found slots : List ℕ) : Type 0 where
 
 abbrev pub HasTried : Bool → List ℕ → List ℕ → List ℕ → List ℕ → Type 0
 HasTried room old xs found slots = MatchBool room (HasRoom old xs found slots) (HasNoRoom old xs found slots)
+
+-- a row has these two numbers and no other
+abbrev pub IsPair : List ℕ → ℕ → ℕ → Type 0
+IsPair row a b = (x : ℕ) → Contains row x ↔ Contains (a ∷ b ∷ []) x
+
+-- the two numbers of rows, where there are no more
+pub record ArePairs (rows : List (List ℕ)) (pairs : List (Option (ℕ × ℕ))) : Type 0 where
+  pub count : length pairs ≡ length rows
+  pub each : (i : ℕ) → i < length pairs → (p : ℕ × ℕ) → slice_index_or pairs i None ≡ Some p
+      → IsPair (row_at rows i) p.0 p.1
 
 -- the word at one place leads to that at another
 abbrev pub RowLeads : List (List ℕ) → ℕ → ℕ → Type 0

@@ -1,5 +1,5 @@
 ghost use Rattle.std.specs.Prelude.{◌≡◌, ◌<◌, ◌↔◌, ℕ, IsTrue, IfOk, length, replicate, slice_index_or, Some, None};
-ghost use Rattle.std.specs.Prelude.{IfSome};
+ghost use Rattle.std.specs.Prelude.{IfSome, false};
 ghost use Rattle.std.specs.List.{Contains};
 ghost use Rattle.loop_shapes.specs.Around.{GivesWay, IsSettled, entry_at};
 ghost use Rattle.loop_shapes.specs.Search.{IsIndexed};
@@ -39,6 +39,17 @@ fn gives_way(found: &[usize], slots: &[usize], entry: Option<usize>, inner: bool
         None => true,
         Some(m) => is_found(found, slots, m) != inner,
     }
+}
+
+/// Whether the outermost loop round a loop's header gives way to that loop, whose words are found.
+pub fn is_wider(found: &[usize], slots: &[usize], entries: &[Option<usize>], header: usize) -> bool
+    requires indexed { IsIndexed found.now slots.now }
+    requires count { length entries.now ≡ length slots.now }
+    requires within { (i m : ℕ) → entry_at entries.now i ≡ Some m → m < length slots.now }
+    requires header { header < length slots.now }
+    ensures { IsTrue result ↔ GivesWay false found.now (entry_at entries.now header) }
+{
+    gives_way(found, slots, entries[header], false)
 }
 
 /// Makes the loop whose words are found the innermost, or the outermost, of those of its words where it is.

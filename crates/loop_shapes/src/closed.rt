@@ -10,7 +10,7 @@ ghost use Rattle.loop_data.specs.Sets.{IsListOf};
 ghost use Rattle.loop_shapes.specs.Lines.{AreRowsOf, IsRowOf};
 ghost use Rattle.loop_data.specs.Flows.{rows};
 
-use crate::around::{Around, settle};
+use crate::around::{Around, is_wider, settle};
 use crate::net::Net;
 use crate::place_set::PlaceSet;
 use loop_data::flow;
@@ -24,7 +24,12 @@ pub fn part(net: &Net, set: &mut PlaceSet, header: usize, source: usize) -> Resu
     ensures part { IfOk result (λ small. HasPart small (graph_of net.now) header source set.new.found.items) }
     ensures set { OnOk result (IsPlaceSet (count_of (graph_of net.now)) set.new) }
 {
-    set.search(net.before.as_slice(), header, &[source])
+    set.search(
+        net.before.as_slice(),
+        net.pairs.as_slice(),
+        header,
+        &[source],
+    )
 }
 
 // Whether a start word stands only at one of these places.
@@ -84,6 +89,9 @@ fn add_closed(
     }
     row.push(source)?;
     settle(&set.found, &set.slots, &mut around.innermost, header, true);
+    if !is_wider(&set.found, &set.slots, around.outermost.as_slice(), header) {
+        return Ok(());
+    }
     settle(&set.found, &set.slots, &mut around.outermost, header, false);
     Ok(())
 }

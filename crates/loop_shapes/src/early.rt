@@ -1,7 +1,7 @@
 ghost use Rattle.std.specs.Prelude.{◌≡◌, ◌<◌, ◌≤◌, ℕ, IfOk, IsTrue, MatchOption, length, Some};
 ghost use Rattle.std.specs.List.{Contains};
 ghost use Rattle.loop_data.specs.Bodies.{InBody, IsHeader};
-ghost use Rattle.loop_data.specs.Early.{IsMisshapen, IsPlain, IsShort, IsEarly};
+ghost use Rattle.loop_data.specs.Early.{IsMisshapen, IsPlain, IsShort, IsSmallNest, IsEarly};
 ghost use Rattle.loop_shapes.specs.Marks.{AreWordMarks, IsFirst};
 ghost use Rattle.loop_shapes.specs.Net.{IsNet, AreAt, graph_of};
 ghost use Rattle.loop_shapes.specs.Outer.{AreKnown, IsClean};
@@ -78,6 +78,21 @@ pub fn is_clean(program: &Program, marks: &Marks, place: usize) -> bool
         → IsClean (program_graph program.now) (at (program_graph program.now) place) }
 {
     is_under(program, marks.clean.as_slice(), place)
+}
+
+/// Whether it is known that only the number of loops in its nest decides the verdict on the loop at a place.
+pub fn is_past_limits(program: &Program, marks: &Marks, place: usize) -> bool
+    requires program { IsProgram program.now }
+    requires marks { AreWordMarks (program_graph program.now) marks.now }
+    requires within { place < count_of (program_graph program.now) }
+    requires header { IsHeader (program_graph program.now) (at (program_graph program.now) place) }
+    ensures clean { IsTrue result → IsClean (program_graph program.now) (at (program_graph program.now) place) }
+    ensures many { IsTrue result → ¬ IsSmallNest (program_graph program.now) (at (program_graph program.now) place) }
+{
+    if !marks.crowded[place] {
+        return false;
+    }
+    is_clean(program, marks, place)
 }
 
 // Whether an outermost loop stands at a place, and neither its words nor its inner loops decide a verdict.

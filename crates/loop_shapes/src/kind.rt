@@ -1,13 +1,14 @@
-ghost use Rattle.std.specs.Prelude.{◌≡◌, ◌↔◌, IfSome, IfNone, IsTrue, ℕ};
+ghost use Rattle.std.specs.Prelude.{◌≡◌, ◌↔◌, ◌<◌, IfSome, IfNone, IsTrue, ℕ};
 ghost use Rattle.loop_shapes.specs.Class.{IsWordOfClass, HasPairing, class_of, does_of};
 ghost use Rattle.loop_data.specs.Instructions.{IsPaired};
 ghost use Rattle.loop_shapes.specs.Kinds.{HasKind};
 ghost use Rattle.loop_shapes.specs.Net.{IsNet, graph_of};
 ghost use Rattle.loop_data.specs.Paths.{IsWord};
+ghost use Rattle.loop_shapes.specs.Places.{at, count_of};
 ghost use Rattle.rv64_decode.specs.Table.{decoded};
 ghost use Rattle.rv64_decode.specs.Fields.{rd_of, rs1_of};
 
-use crate::net::Net;
+use crate::net::{Net, address_of};
 use loop_data::flow::place_of;
 use rv64_decode::{Instr, UpperOp, decode};
 
@@ -82,6 +83,15 @@ fn class_of_word(bits: u32) -> Class
     }
 }
 
+// The class of the word at a place.
+fn class_of_place(net: &Net, place: usize) -> Class
+    requires net { IsNet net.now }
+    requires within { place < count_of (graph_of net.now) }
+    ensures { IsWordOfClass (graph_of net.now) (at (graph_of net.now) place) result }
+{
+    class_of_word(net.graph.words.as_slice()[place].bits)
+}
+
 // The class of the word at an address.
 fn class_at(net: &Net, x: u64) -> Option<Class>
     requires { IsNet net.now }
@@ -142,6 +152,17 @@ fn does(kind: Kind, class: Class, paired: bool) -> bool
         Kind::IsNothing => matches!(class, Class::Nothing),
         Kind::Branches => matches!(class, Class::Fork),
     }
+}
+
+/// Whether the word at a place does this.
+pub fn has_kind_at(net: &Net, place: usize, kind: Kind) -> bool
+    requires net { IsNet net.now }
+    requires within { place < count_of (graph_of net.now) }
+    ensures { IsTrue result ↔ HasKind kind (graph_of net.now) (at (graph_of net.now) place) }
+{
+    let x = address_of(net, place);
+    let class = class_of_place(net, place);
+    does(kind, class, pairing(net, x, class))
 }
 
 /// Whether the word at an address does this.

@@ -9,7 +9,7 @@ ghost use Rattle.loop_data.specs.Sets.{IsListOf};
 ghost use Rattle.loop_data.specs.Shape.{InNest};
 
 use crate::body::{addresses_at, in_order};
-use crate::early::{early_verdict, is_clean};
+use crate::early::{early_verdict, is_clean, is_past_limits};
 use crate::marks::Marks;
 use crate::nest::{headers_of, is_small_nest, round_of};
 use crate::net::{address_of, find};
@@ -108,6 +108,9 @@ pub fn loop_at(
     ensures is { IfOk result (IsLoop (program_graph program.now)) }
 {
     let header = address_of(&program.net, place);
+    if is_past_limits(program, marks, place) {
+        return Ok(judged(set.alloc, header, Verdict::Limit { at: header }));
+    }
     if !find_body(program, set, place)? {
         return Ok(judged(set.alloc, header, Verdict::Limit { at: header }));
     }

@@ -28,6 +28,7 @@ mod net;
 mod numbers;
 mod open;
 mod outer;
+mod pairs;
 mod place_set;
 mod places;
 mod program;

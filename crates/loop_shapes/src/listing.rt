@@ -16,7 +16,7 @@ use crate::levels::{judged, loop_at};
 use crate::line::line_of;
 use crate::listed::listed_rows;
 use crate::marks::{Marks, marks_of};
-use crate::nest::shape_flags;
+use crate::nest::nest_flags;
 use crate::net::{Net, address_of, net_of};
 use crate::numbers::numbers_of;
 use crate::place_set::PlaceSet;
@@ -84,8 +84,8 @@ fn shapes_of(program: &Program, set: &mut PlaceSet) -> Result<Vec<LoopShape>, Al
 {
     let numbers = numbers_of(set.alloc, &program.net, program.next.as_slice())?;
     let mut others = PlaceSet::new(set.alloc);
-    let shaped = shape_flags(program, set, &mut others)?;
-    let marks = marks_of(program, shaped.as_slice(), set)?;
+    let flags = nest_flags(program, set, &mut others)?;
+    let marks = marks_of(program, flags, set)?;
     let marks = with_clean(program, marks, set)?;
     let listed = listed_rows(set.alloc, program, numbers.as_slice())?;
     let mut all = Vec::new(set.alloc);

@@ -3,7 +3,7 @@ ghost use Rattle.std.specs.Prelude.{slice_index_or, false};
 ghost use Rattle.std.specs.List.{Contains};
 ghost use Rattle.loop_data.specs.Bodies.{IsHeader};
 ghost use Rattle.loop_shapes.specs.Kinds.{HasKind};
-ghost use Rattle.loop_shapes.specs.Marks.{AreWordMarks, ArePlacesShaped, lesser_of};
+ghost use Rattle.loop_shapes.specs.Marks.{AreWordMarks, AreNestFlags, ArePlacesShaped, lesser_of};
 ghost use Rattle.loop_shapes.specs.Outer.{AreKnown, IsSound, IsUnsound};
 ghost use Rattle.loop_shapes.specs.Net.{IsNet, graph_of};
 ghost use Rattle.loop_shapes.specs.Places.{AreFlags, at, count_of};
@@ -12,8 +12,9 @@ ghost use Rattle.loop_data.specs.Sets.{IsLeast};
 ghost use Rattle.loop_data.specs.Shape.{IsShaped};
 ghost use Rattle.loop_data.specs.Flows.{IsSet};
 
-use crate::kind::{Kind, has_kind};
-use crate::net::{Net, address_of};
+use crate::kind::{Kind, has_kind_at};
+use crate::nest::NestFlags;
+use crate::net::Net;
 use crate::outer::{is_outer, is_under};
 use crate::place_set::PlaceSet;
 use crate::program::{Program, find_body, is_header_at};
@@ -35,6 +36,8 @@ pub struct Marks {
     pub unsound: Vec<bool>,
     /// Whether it is known that the loop there is clean: neither its words nor its inner loops decide a verdict.
     pub clean: Vec<bool>,
+    /// Whether it is known that the loop there has at most 256 words, and its nest more than 4 loops.
+    pub crowded: Vec<bool>,
 }
 
 // Which words do this.
@@ -44,8 +47,7 @@ fn kind_flags(alloc: Global, net: &Net, kind: Kind) -> Result<Vec<bool>, AllocEr
 {
     let mut all = Vec::new(alloc);
     for place in 0..net.at.len() {
-        let x = address_of(net, place);
-        all.push(has_kind(net, x, kind))?;
+        all.push(has_kind_at(net, place, kind))?;
     }
     Ok(all)
 }
@@ -183,11 +185,15 @@ fn unsound_flags(
     Ok(all)
 }
 
-/// What is known of each word, from the loops that have the shape, whatever their inner loops have; it is
-/// not known yet which loops are clean.
-pub fn marks_of(program: &Program, shaped: &[bool], set: &mut PlaceSet) -> Result<Marks, AllocError>
+/// What is known of each word, from the loops that have the shape, whatever their inner loops have, and from
+/// crowded nests; it is not known yet which loops are clean.
+pub fn marks_of(
+    program: &Program,
+    flags: NestFlags,
+    set: &mut PlaceSet,
+) -> Result<Marks, AllocError>
     requires program { IsProgram program.now }
-    requires flags { AreFlags (program_graph program.now) (IsShaped (program_graph program.now)) shaped.now }
+    requires flags { AreNestFlags (program_graph program.now) flags }
     ensures { IfOk result (AreWordMarks (program_graph program.now)) }
 {
     let net = &program.net;
@@ -196,8 +202,9 @@ pub fn marks_of(program: &Program, shaped: &[bool], set: &mut PlaceSet) -> Resul
         asks: kind_flags(set.alloc, net, Kind::Asks)?,
         jumps: kind_flags(set.alloc, net, Kind::JumpsAnywhere)?,
         nothing: kind_flags(set.alloc, net, Kind::IsNothing)?,
-        unsound: unsound_flags(program, shaped, set)?,
+        unsound: unsound_flags(program, flags.shaped.as_slice(), set)?,
         clean: unset_flags(set.alloc, net.at.len())?,
+        crowded: flags.crowded,
     })
 }
 

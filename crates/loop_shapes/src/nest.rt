@@ -5,8 +5,9 @@ ghost use Rattle.loop_data.specs.Early.{IsRound, IsSmallNest};
 ghost use Rattle.loop_shapes.specs.Gains.{Gained, HasAll};
 ghost use Rattle.loop_shapes.specs.Net.{AreAt};
 ghost use Rattle.loop_shapes.specs.Nested.{HasTriedHeader};
-ghost use Rattle.loop_shapes.specs.Outer.{AreKnown, IsAcyclic};
-ghost use Rattle.loop_shapes.specs.Places.{AreFlags, at, count_of};
+ghost use Rattle.loop_shapes.specs.Marks.{AreNestFlags};
+ghost use Rattle.loop_shapes.specs.Outer.{AreKnown, IsAcyclic, IsCrowded};
+ghost use Rattle.loop_shapes.specs.Places.{at, count_of};
 ghost use Rattle.loop_shapes.specs.Program.{IsProgram, program_graph};
 ghost use Rattle.loop_shapes.specs.PlaceSet.{IsPlaceSet};
 ghost use Rattle.loop_data.specs.Sets.{IsListOf, HasAtMost};
@@ -25,6 +26,15 @@ const LOOPS: usize = 4;
 
 // The number of loops of a nest that may lie round one of them.
 const ROUND: usize = 2;
+
+/// What is known of the loop at each word.
+#[derive(Drop)]
+pub struct NestFlags {
+    /// Whether a loop stands there that has the shape, whatever its inner loops have.
+    pub shaped: Vec<bool>,
+    /// Whether a loop stands there of at most 256 words, with more than 4 loops in its nest.
+    pub crowded: Vec<bool>,
+}
 
 // Whether an outermost loop stands at a place that has no cycle but through back edges.
 fn is_acyclic_outer(
@@ -65,51 +75,6 @@ fn acyclic_flags(
     Ok(all)
 }
 
-// Whether the loop at a place has the shape, whatever its inner loops have.
-fn is_shaped(
-    program: &Program,
-    set: &mut PlaceSet,
-    others: &mut PlaceSet,
-    acyclic: &[bool],
-    place: usize,
-) -> Result<bool, AllocError>
-    requires program { IsProgram program.now }
-    requires acyclic { AreKnown (program_graph program.now) (IsAcyclic (program_graph program.now)) acyclic.now }
-    requires within { place < count_of (program_graph program.now) }
-    ensures { IfOk result (λ b. IsTrue b
-        ↔ IsShaped (program_graph program.now) (at (program_graph program.now) place)) }
-{
-    if !is_header_at(program, place) {
-        return Ok(false);
-    }
-    if !find_body(program, set, place)? {
-        return Ok(false);
-    }
-    let known = is_under(program, acyclic, place);
-    match own_shape_at(program, set, others, known, place)? {
-        Some(_) => Ok(true),
-        None => Ok(false),
-    }
-}
-
-/// At which words loops stand that have the shape, whatever their inner loops have.
-pub fn shape_flags(
-    program: &Program,
-    set: &mut PlaceSet,
-    others: &mut PlaceSet,
-) -> Result<Vec<bool>, AllocError>
-    requires program { IsProgram program.now }
-    ensures { IfOk result (λ v. AreFlags (program_graph program.now)
-        (IsShaped (program_graph program.now)) v.items) }
-{
-    let acyclic = acyclic_flags(program, set, others)?;
-    let mut all = Vec::new(set.alloc);
-    for place in 0..program.net.at.len() {
-        all.push(is_shaped(program, set, others, acyclic.as_slice(), place)?)?;
-    }
-    Ok(all)
-}
-
 // Puts the address at a place to others, where a loop stands there.
 fn add_header(program: &Program, place: usize, all: &mut Vec<u64>) -> Result<(), AllocError>
     requires program { IsProgram program.now }
@@ -141,6 +106,72 @@ pub fn headers_of(program: &Program, set: &PlaceSet) -> Result<Option<Vec<u64>>,
         add_header(program, *place, &mut all)?;
     }
     Ok(Some(all))
+}
+
+// Whether a nest has more than 4 loops, from the places of its root's words.
+fn is_crowded(program: &Program, set: &PlaceSet) -> Result<bool, AllocError>
+    requires program { IsProgram program.now }
+    requires set { IsPlaceSet (count_of (program_graph program.now)) set.now }
+    ensures { IfOk result (λ b. (h : ℕ)
+        → AreAt (program_graph program.now) (InBody (program_graph program.now) h) set.now.found.items
+        → IsTrue b → ¬ HasAtMost 4 (InNest (program_graph program.now) h)) }
+{
+    match headers_of(program, set)? {
+        Some(_) => Ok(false),
+        None => Ok(true),
+    }
+}
+
+// Whether the loop at a place has the shape, whatever its inner loops have, and whether it is known that it has
+// at most 256 words and its nest more than 4 loops.
+fn flags_at(
+    program: &Program,
+    set: &mut PlaceSet,
+    others: &mut PlaceSet,
+    acyclic: &[bool],
+    place: usize,
+) -> Result<(bool, bool), AllocError>
+    requires program { IsProgram program.now }
+    requires acyclic { AreKnown (program_graph program.now) (IsAcyclic (program_graph program.now)) acyclic.now }
+    requires within { place < count_of (program_graph program.now) }
+    ensures shaped { IfOk result (λ b. IsTrue b.0
+        ↔ IsShaped (program_graph program.now) (at (program_graph program.now) place)) }
+    ensures crowded { IfOk result (λ b. IsTrue b.1
+        → IsCrowded (program_graph program.now) (at (program_graph program.now) place)) }
+{
+    if !is_header_at(program, place) {
+        return Ok((false, false));
+    }
+    if !find_body(program, set, place)? {
+        return Ok((false, false));
+    }
+    let crowded = is_crowded(program, set)?;
+    let known = is_under(program, acyclic, place);
+    match own_shape_at(program, set, others, known, place)? {
+        Some(_) => Ok((true, crowded)),
+        None => Ok((false, crowded)),
+    }
+}
+
+/// At which words loops stand that have the shape, whatever their inner loops have, and at which loops of at
+/// most 256 words with more than 4 loops in their nests.
+pub fn nest_flags(
+    program: &Program,
+    set: &mut PlaceSet,
+    others: &mut PlaceSet,
+) -> Result<NestFlags, AllocError>
+    requires program { IsProgram program.now }
+    ensures { IfOk result (AreNestFlags (program_graph program.now)) }
+{
+    let acyclic = acyclic_flags(program, set, others)?;
+    let mut shaped = Vec::new(set.alloc);
+    let mut crowded = Vec::new(set.alloc);
+    for place in 0..program.net.at.len() {
+        let flags = flags_at(program, set, others, acyclic.as_slice(), place)?;
+        shaped.push(flags.0)?;
+        crowded.push(flags.1)?;
+    }
+    Ok(NestFlags { shaped, crowded })
 }
 
 // Puts a loop to others, where it lies round another.

@@ -5,7 +5,8 @@ ghost use Rattle.loop_shapes.specs.Places.{at, count_of};
 ghost use Rattle.loop_data.specs.Starts.{AreFromStarts};
 ghost use Rattle.std.specs.Prelude.{◌≡◌, ◌<◌, IfOk, IfSome, IfNone};
 
-use crate::places::{address_list, sources, start_flags};
+use crate::pairs::pairs_of;
+use crate::places::{address_list, place_near, sources, start_flags};
 use loop_data::Graph;
 use loop_data::flow::place_of;
 use std::alloc::{AllocError, Global};
@@ -19,6 +20,8 @@ pub struct Net<'a> {
     pub at: Vec<u64>,
     /// For each word the places of the words from which step edges lead to it.
     pub before: Vec<Vec<usize>>,
+    /// Those places where they are one or two.
+    pub pairs: Vec<Option<(usize, usize)>>,
     /// Whether each word is a start word.
     pub starts: Vec<bool>,
 }
@@ -32,11 +35,13 @@ pub fn net_of(alloc: Global, graph: &Graph) -> Result<Net<'_>, AllocError>
 {
     let at = address_list(alloc, graph)?;
     let before = sources(alloc, graph, at.as_slice())?;
+    let pairs = pairs_of(alloc, before.as_slice())?;
     let starts = start_flags(alloc, graph, at.as_slice())?;
     Ok(Net {
         graph,
         at,
         before,
+        pairs,
         starts,
     })
 }
@@ -48,6 +53,15 @@ pub fn find(net: &Net, x: u64) -> Option<usize>
     ensures none { IfNone result (¬ IsWord (graph_of net.now) x) }
 {
     place_of(net.at.as_slice(), x)
+}
+
+/// The place of the word at an address, near to the word at a place.
+pub fn find_near(net: &Net, near: usize, x: u64) -> Option<usize>
+    requires { IsNet net.now }
+    ensures found { IfSome result (λ i. (i < count_of (graph_of net.now)) × (at (graph_of net.now) i ≡ x)) }
+    ensures none { IfNone result (¬ IsWord (graph_of net.now) x) }
+{
+    place_near(net.at.as_slice(), near, x)
 }
 
 /// The address at a place.

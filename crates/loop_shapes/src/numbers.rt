@@ -7,7 +7,7 @@ ghost use Rattle.loop_data.specs.Paths.{IsWord, Leads};
 ghost use Rattle.loop_shapes.specs.Places.{AreFlags, at, count_of};
 ghost use Rattle.strong_components.specs.Graph.{LeadsTo};
 
-use crate::net::{Net, find};
+use crate::net::{Net, find_near};
 use std::alloc::{AllocError, Global};
 use strong_components::{Successors, components};
 
@@ -21,8 +21,8 @@ pub fn word_steps<'a>(net: &'a Net, place: usize) -> &'a [u64]
     net.graph.words.as_slice()[place].steps.as_slice()
 }
 
-// The place to which one of some steps leads.
-fn step_at(net: &Net, steps: &[u64], k: usize) -> Option<u32>
+// The place to which one of the steps of the word at a place leads.
+fn step_at(net: &Net, place: usize, steps: &[u64], k: usize) -> Option<u32>
     requires net { IsNet net.now }
     requires few { count_of (graph_of net.now) < 2 ^ 32 }
     ensures some { IfSome result (λ j. (j < count_of (graph_of net.now)) × (k < length steps.now)
@@ -32,7 +32,7 @@ fn step_at(net: &Net, steps: &[u64], k: usize) -> Option<u32>
     if k >= steps.len() {
         return None;
     }
-    match find(net, steps[k]) {
+    match find_near(net, place, steps[k]) {
         Some(j) => Some(j as u32),
         None => None,
     }
@@ -49,8 +49,8 @@ fn successors_at(net: &Net, place: usize) -> Successors
 {
     let steps = word_steps(net, place);
     Successors {
-        first: step_at(net, steps, 0),
-        second: step_at(net, steps, 1),
+        first: step_at(net, place, steps, 0),
+        second: step_at(net, place, steps, 1),
     }
 }
 
@@ -67,12 +67,12 @@ pub fn nodes(alloc: Global, net: &Net) -> Result<Vec<Successors>, AllocError>
     Ok(all)
 }
 
-// Whether a word stands at an address.
-fn is_word(net: &Net, x: u64) -> bool
+// Whether a word stands at an address, near to the word at a place.
+fn is_word(net: &Net, near: usize, x: u64) -> bool
     requires { IsNet net.now }
     ensures { IsTrue result ↔ IsWord (graph_of net.now) x }
 {
-    match find(net, x) {
+    match find_near(net, near, x) {
         Some(_) => true,
         None => false,
     }
@@ -85,7 +85,7 @@ fn leads_astray(net: &Net, place: usize) -> bool
     ensures { IsTrue result ↔ LeadsAstray (graph_of net.now) (at (graph_of net.now) place) }
 {
     for y in word_steps(net, place) {
-        if !is_word(net, *y) {
+        if !is_word(net, place, *y) {
             return true;
         }
     }

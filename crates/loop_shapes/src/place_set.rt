@@ -2,7 +2,7 @@ ghost use Rattle.std.specs.Prelude.{◌≡◌, ◌↔◌, ◌<◌, ◌++◌, ◌
 ghost use Rattle.std.specs.List.{Contains};
 ghost use Rattle.loop_data.specs.Flows.{AreRowsWithin, rows};
 ghost use Rattle.loop_shapes.specs.PlaceSet.{IsPlaceSet};
-ghost use Rattle.loop_shapes.specs.Search.{HasSearched};
+ghost use Rattle.loop_shapes.specs.Search.{ArePairs, HasSearched};
 
 use crate::search::{is_found, push_new, search};
 use std::alloc::{AllocError, Global};
@@ -76,10 +76,12 @@ impl PlaceSet {
     pub fn search(
         &mut self,
         before: &[Vec<usize>],
+        pairs: &[Option<(usize, usize)>],
         header: usize,
         sources: &[usize],
     ) -> Result<bool, AllocError>
         requires within { AreRowsWithin (rows before.now) }
+        requires pairs { ArePairs (rows before.now) pairs.now }
         requires header { header < length before.now }
         requires sources { (x : ℕ) → Contains sources.now x → x < length before.now }
         ensures places { IfOk result (λ small. HasSearched small (rows before.now) header sources.now
@@ -87,6 +89,13 @@ impl PlaceSet {
         ensures set { OnOk result (IsPlaceSet (length before.now) self.new) }
     {
         self.fit(before.len())?;
-        search(before, &mut self.slots, &mut self.found, header, sources)
+        search(
+            before,
+            pairs,
+            &mut self.slots,
+            &mut self.found,
+            header,
+            sources,
+        )
     }
 }

@@ -20,13 +20,41 @@ fn add(before: &mut [Vec<usize>], to: usize, from: usize) -> Result<(), AllocErr
     Ok(())
 }
 
+// The place at which an address stands, if there are no gaps between it and the one at another place.
+fn guess(at: &[u64], near: usize, x: u64) -> usize {
+    if near >= at.len() {
+        return near;
+    }
+    let y = at[near];
+    if y <= x {
+        return near.wrapping_add(((x - y) / 4) as usize);
+    }
+    near.wrapping_sub(((y - x) / 4) as usize)
+}
+
+/// The place of an address among addresses in order, looked for first where it stands if there are no gaps
+/// between it and the address at a place near it.
+pub fn place_near(at: &[u64], near: usize, x: u64) -> Option<usize>
+    requires { IsStrictlyIncreasing at.now }
+    ensures found { IfSome result (λ i. (i < length at.now) × (slice_index at.now i ≡ x)) }
+    ensures none { IfNone result (¬ Contains at.now x) }
+{
+    let place = guess(at, near, x);
+    if place < at.len() {
+        if at[place] == x {
+            return Some(place);
+        }
+    }
+    place_of(at, x)
+}
+
 // Puts a place into the row of an address.
 fn add_step(before: &mut [Vec<usize>], at: &[u64], y: u64, from: usize) -> Result<(), AllocError>
     requires ordered { IsStrictlyIncreasing at.now }
     requires count { length before.old ≡ length at.now }
     ensures { OnOk result (Added at.now from (Contains (y ∷ [])) (rows before.old) (rows before.new)) }
 {
-    match place_of(at, y) {
+    match place_near(at, from, y) {
         Some(to) => add(before, to, from),
         None => Ok(()),
     }

@@ -118,6 +118,7 @@ pub fn find_body(program: &Program, set: &mut PlaceSet, header: usize) -> Result
 {
     set.search(
         program.net.before.as_slice(),
+        program.net.pairs.as_slice(),
         header,
         sources_of(program, header),
     )

@@ -1,6 +1,6 @@
 ghost use Rattle.std.specs.Prelude.{◌≡◌, ◌≢◌, ◌<◌, ◌≤◌, ◌+◌, ℕ, ◌++◌, ◌∷◌, [], length, IfOk, OnOk, IsTrue, ◌↔◌};
 ghost use Rattle.std.specs.List.{Contains};
-ghost use Rattle.loop_shapes.specs.Search.{IsIndexed, HasTried, HasRoom, HasSearched};
+ghost use Rattle.loop_shapes.specs.Search.{IsIndexed, HasTried, HasRoom, HasSearched, ArePairs};
 ghost use Rattle.loop_data.specs.Flows.{AreRowsWithin, row_at, rows};
 
 use std::alloc::AllocError;
@@ -63,14 +63,35 @@ fn add_all(found: &mut Vec<usize>, slots: &mut [usize], more: &[usize]) -> Resul
     Ok(true)
 }
 
+// Puts two numbers to those that are found; whether there was room.
+fn add_pair(
+    found: &mut Vec<usize>,
+    slots: &mut [usize],
+    first: usize,
+    second: usize,
+) -> Result<bool, AllocError>
+    requires first { first < length slots.old }
+    requires second { second < length slots.old }
+    requires indexed { IsIndexed found.old.items slots.old }
+    requires bound { length found.old.items ≤ 256 }
+    ensures { IfOk result (λ room. HasTried room found.old.items (first ∷ second ∷ []) found.new.items slots.new) }
+{
+    if !add_new(found, slots, first)? {
+        return Ok(false);
+    }
+    add_new(found, slots, second)
+}
+
 // Puts the numbers of a row to those that are found; whether there was room.
 fn add_row(
     before: &[Vec<usize>],
+    pairs: &[Option<(usize, usize)>],
     slots: &mut [usize],
     found: &mut Vec<usize>,
     at: usize,
 ) -> Result<bool, AllocError>
     requires within { AreRowsWithin (rows before.now) }
+    requires pairs { ArePairs (rows before.now) pairs.now }
     requires count { length slots.old ≡ length before.now }
     requires at { at < length before.now }
     requires indexed { IsIndexed found.old.items slots.old }
@@ -78,7 +99,11 @@ fn add_row(
     ensures { IfOk result (λ room. HasTried room found.old.items
         (row_at (rows before.now) at) found.new.items slots.new) }
 {
-    add_all(found, slots, before[at].as_slice())
+    let known = pairs[at];
+    match known {
+        Some(pair) => add_pair(found, slots, pair.0, pair.1),
+        None => add_all(found, slots, before[at].as_slice()),
+    }
 }
 
 // Begins a search with the header and the sources; whether there was room.
@@ -99,15 +124,17 @@ fn start(
 
 /// Searches backwards from `sources` and stops at `header`: whether the edges from the sources to `header`
 /// close at most 256 words into a loop, whose places `found` then has. What `slots` holds before does not
-/// matter.
+/// matter. `pairs` has the rows of `before` that are short, at one look less.
 pub fn search(
     before: &[Vec<usize>],
+    pairs: &[Option<(usize, usize)>],
     slots: &mut [usize],
     found: &mut Vec<usize>,
     header: usize,
     sources: &[usize],
 ) -> Result<bool, AllocError>
     requires within { AreRowsWithin (rows before.now) }
+    requires pairs { ArePairs (rows before.now) pairs.now }
     requires count { length slots.old ≡ length before.now }
     requires header { header < length before.now }
     requires sources { (x : ℕ) → Contains sources.now x → x < length before.now }
@@ -120,7 +147,7 @@ pub fn search(
     let mut next = 1;
     while next < found.len() {
         let at = found[next];
-        if !add_row(before, slots, found, at)? {
+        if !add_row(before, pairs, slots, found, at)? {
             return Ok(false);
         }
         next += 1;

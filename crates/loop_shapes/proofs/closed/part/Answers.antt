@@ -4,7 +4,7 @@ use Rattle.std.proofs.lemmas.Result.{IfOk-weaker, on_ok_weaker}
 use Rattle.std.specs.declared.vec.Vec.{Vec}
 use Rattle.std.specs.declared.alloc.Global.{Global}
 use Rattle.loop_shapes.proofs.Rows.{alone}
-use Rattle.loop_shapes.specs.Search.{HasSearched}
+use Rattle.loop_shapes.specs.Search.{ArePairs, HasSearched}
 use Rattle.loop_shapes.specs.PlaceSet.{IsPlaceSet}
 use Rattle.loop_shapes.specs.Places.{count_of}
 use Rattle.loop_shapes.specs.Net.{HasPart, graph_of}
@@ -16,6 +16,11 @@ pub search-requires-clause-within : goal.search-requires-clause-within
 search-requires-clause-within c =
     let n = c.requires.net in
     subst (λ (vs : List (Vec ℕ Global)). AreRowsWithin (rows vs)) (sym c.as_slice.ensures.value) (within (graph_of c.args.net.now) n.ordered (rows c.args.net.now.before.items) n.sources)
+
+pub search-requires-clause-pairs : goal.search-requires-clause-pairs
+search-requires-clause-pairs c =
+    let n = c.requires.net in
+    subst (λ (vs : List (Vec ℕ Global)). ArePairs (rows vs) c.as_slice-2.result.now) (sym c.as_slice.ensures.value) (subst (ArePairs (rows c.args.net.now.before.items)) (sym c.as_slice-2.ensures.value) n.pairs)
 
 pub search-requires-clause-sources : goal.search-requires-clause-sources
 search-requires-clause-sources c x m =

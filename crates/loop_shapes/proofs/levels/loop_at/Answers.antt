@@ -2,6 +2,7 @@ use Rattle.std.proofs.Common.{ℕ, inl, refl, sym, subst}
 use Rattle.std.specs.declared.vec.Vec.{Vec}
 use Rattle.std.specs.declared.alloc.Global.{Global}
 use Rattle.loop_data.specs.Bodies.{IsHeader, InBody}
+use Rattle.loop_data.specs.Early.{IsSmallNest}
 use Rattle.loop_shapes.specs.Gains.{HasAll}
 use Rattle.loop_data.specs.Loops.{AreLevels}
 use Rattle.loop_shapes.specs.Net.{AreAt}
@@ -16,6 +17,17 @@ use Rattle.loop_shapes.proofs.Headers.{nest_in_order}
 use Rattle.loop_shapes.proofs.LevelLists.{limit_loop, sound_loop}
 use Rattle.loop_shapes.proofs.Unsound.{body_there}
 use Rattle.loop_shapes.proofs.levels.loop_at.Goals as goal
+
+pub returns-then-is_past_limits-clause-is : goal.returns-then-is_past_limits-clause-is
+returns-then-is_past_limits-clause-is c =
+    let G = program_graph c.args.program.now in
+    let h = c.address_of-header.result in
+    let is = c.address_of-header.ensures in
+    let own = subst (IsHeader G) (sym is) c.requires.header in
+    let clean = subst (IsClean G) (sym is) (c.is_past_limits.ensures.clean c.if-is_past_limits.true) in
+    let many = subst (λ (x : ℕ). ¬ IsSmallNest G x) (sym is) (c.is_past_limits.ensures.many c.if-is_past_limits.true) in
+    let j = c.judged.ensures in
+    limit_loop G h c.judged.result own j.header j.early j.levels (clean.plain, clean.shaped) many
 
 pub returns-in_default-2-clause-is : goal.returns-in_default-2-clause-is
 returns-in_default-2-clause-is c =

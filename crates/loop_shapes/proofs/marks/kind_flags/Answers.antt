@@ -1,5 +1,4 @@
-use Rattle.std.proofs.Common.{◌≡◌, ◌<◌, ◌↔◌, ℕ, length, ap, sym, ◌∙◌, subst, arith}
-use Rattle.std.specs.Bool.{IsTrue}
+use Rattle.std.proofs.Common.{◌≡◌, ◌<◌, ℕ, length, ap, sym, ◌∙◌, subst, arith}
 use Rattle.loop_shapes.specs.Kinds.{HasKind}
 use Rattle.loop_shapes.specs.Net.{graph_of}
 use Rattle.loop_shapes.specs.Places.{at, count_of}
@@ -9,7 +8,7 @@ use Rattle.loop_shapes.proofs.marks.kind_flags.Goals as goal
 pub loop-place-preserved : goal.loop-place-preserved
 loop-place-preserved c =
     let G = graph_of c.args.net.now in
-    flags_push (λ i. HasKind c.args.kind G (at G i)) c.loop-place.all.items c.has_kind.result c.loop-place.place c.push.new.self.items c.in_ok-push.ensures.items c.loop-place.invariant (subst (λ (x : ℕ). IsTrue c.has_kind.result ↔ HasKind c.args.kind G x) c.address_of-x.ensures c.has_kind.ensures)
+    flags_push (λ i. HasKind c.args.kind G (at G i)) c.loop-place.all.items c.has_kind_at.result c.loop-place.place c.push.new.self.items c.in_ok-push.ensures.items c.loop-place.invariant c.has_kind_at.ensures
 
 pub returns : goal.returns
 returns c =

@@ -3,7 +3,7 @@ use Rattle.std.proofs.lemmas.List.{length-map}
 use Rattle.std.proofs.lemmas.Result.{IfOk-weaker, on_ok_weaker}
 use Rattle.std.specs.declared.vec.Vec.{Vec}
 use Rattle.std.specs.declared.alloc.Global.{Global}
-use Rattle.loop_shapes.specs.Search.{HasSearched}
+use Rattle.loop_shapes.specs.Search.{ArePairs, HasSearched}
 use Rattle.loop_shapes.specs.Net.{HasBody}
 use Rattle.loop_shapes.specs.PlaceSet.{IsPlaceSet}
 use Rattle.loop_shapes.specs.Places.{at, count_of}
@@ -16,6 +16,11 @@ pub search-requires-clause-within : goal.search-requires-clause-within
 search-requires-clause-within c =
     let n = c.requires.program.net in
     subst (λ (vs : List (Vec ℕ Global)). AreRowsWithin (rows vs)) (sym c.as_slice.ensures.value) (within (program_graph c.args.program.now) n.ordered (rows c.args.program.now.net.before.items) n.sources)
+
+pub search-requires-clause-pairs : goal.search-requires-clause-pairs
+search-requires-clause-pairs c =
+    let n = c.requires.program.net in
+    subst (λ (vs : List (Vec ℕ Global)). ArePairs (rows vs) c.as_slice-2.result.now) (sym c.as_slice.ensures.value) (subst (ArePairs (rows c.args.program.now.net.before.items)) (sym c.as_slice-2.ensures.value) n.pairs)
 
 pub search-requires-clause-sources : goal.search-requires-clause-sources
 search-requires-clause-sources c x m =
