@@ -1,0 +1,10 @@
+pub mod Analysis
+pub mod Pairs
+pub mod Verdicts
+pub mod Judging
+pub mod Outcomes
+pub mod Choice
+pub mod Choosing
+pub mod OneVerdict
+pub mod OnePlan
+pub mod Independence

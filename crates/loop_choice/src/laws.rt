@@ -1,0 +1,76 @@
+ghost use Rattle.loop_choice.specs.Choice.{OneChoiceLaw};
+ghost use Rattle.loop_choice.specs.Independence.{IndependenceLaw, StayLaw};
+ghost use Rattle.loop_choice.specs.OnePlan.{OnePlanLaw};
+ghost use Rattle.loop_choice.specs.OneVerdict.{OneNestVerdictLaw, OneVerdictLaw};
+
+use affine_addresses::laws::{addresses_are_values, each_access_is_listed, one_list_of_accesses};
+use alias_checks::laws::{
+    answers_tell_tests, entry_values_are_of_states, held_values_do_not_wrap, one_list_of_pairs,
+};
+use apart_turns::laws::held_turns_are_apart;
+use distance_vectors::laws::one_distance;
+use induction::laws::one_class;
+use loop_data::laws::one_pass;
+use loop_shapes::laws::nests;
+use register_equations::laws::{forms_are_right, one_result, uses_ask_for_cells};
+use stack_slots::laws::{cells_are_found, one_list_of_cells};
+use trip_counts::laws::{one_trip, trips_tell_stays};
+
+/// There is one choice of loops.
+pub fn one_choice()
+    ensures { OneChoiceLaw }
+{}
+
+/// The verdict of a nest whose shape decides none is determined by its definition.
+pub fn one_nest_verdict()
+    ensures { OneNestVerdictLaw }
+{
+    one_list_of_cells();
+    one_class();
+    one_result();
+    one_trip();
+    one_list_of_accesses();
+    one_distance();
+}
+
+/// The verdict of a listed loop is determined by its definition.
+pub fn one_verdict()
+    ensures { OneVerdictLaw }
+{
+    one_nest_verdict();
+    nests();
+}
+
+/// The plan and the check of a listed loop are determined by their definition.
+pub fn one_plan()
+    ensures { OnePlanLaw }
+{
+    one_list_of_cells();
+    one_class();
+    one_result();
+    one_trip();
+    one_list_of_accesses();
+    one_list_of_pairs();
+    nests();
+}
+
+/// Where the check of a loop that is judged Parallel holds in a state at the loop, the turns that it tells are
+/// independent: they exist and end, execute words of the loop alone and meet no fault and no call, each location has
+/// its role, cells are touched by their own accesses alone, and no byte outside them that one turn writes is read or
+/// written by another. None of these turns leaves the loop.
+pub fn held_turns_are_independent()
+    ensures independent { IndependenceLaw }
+    ensures stay { StayLaw }
+{
+    one_pass();
+    cells_are_found();
+    forms_are_right();
+    uses_ask_for_cells();
+    trips_tell_stays();
+    addresses_are_values();
+    each_access_is_listed();
+    answers_tell_tests();
+    entry_values_are_of_states();
+    held_values_do_not_wrap();
+    held_turns_are_apart();
+}
