@@ -9,3 +9,4 @@ pub mod SerialRun
 pub mod SpinLoop
 pub mod ShiftLoop
 pub mod Misfits
+pub mod Checked

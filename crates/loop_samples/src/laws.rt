@@ -15,6 +15,8 @@ ghost use Rattle.loop_samples.specs.Samples.{code_area};
 ghost use Rattle.loop_samples.specs.ShiftLoop.{shift_loop, shifting, shift_roles};
 ghost use Rattle.loop_samples.specs.Misfits.{cells_without_load, moving_cell, cell_beside, fast_roles, private_counter, array_area, areas_with};
 ghost use Rattle.loop_samples.specs.SpinLoop.{spin_loop, spinning};
+ghost use Rattle.loop_samples.specs.Checked.{told, add_check, summing_at, nest_check, counting_at};
+ghost use Rattle.alias_checks.specs.Answers.{answer};
 ghost use Rattle.loop_samples.specs.SerialRun.{state_in, IsSerial};
 ghost use Rattle.serial_run.specs.Serial.{State as SerialState, ended, serial};
 ghost use Rattle.rv64_decode.specs.declared.outcome.Next.TheVariants.{At};
@@ -155,4 +157,28 @@ pub fn misfits_are_refused()
     ensures executable { ¬ AtLoop (areas_with (record array_area { executable = true })) add_loop arrays }
     ensures alone { ¬ AtLoop (code_area 0x1_00F0 words ∷ []) add_loop arrays }
     ensures gap { ¬ Stays gap_loop arrays 0 }
+{}
+
+/// The check of the loop that adds arrays tells the 19 turns that stay. The sums may take the place of the first array,
+/// and lie where the last of 19 still has room, but not begin in the second element of an array that is read.
+#[tactic(auto, unfolding(alias_checks::specs::Entry::entry, alias_checks::specs::Entry::start_value, alias_checks::specs::TurnTests::turns_of, alias_checks::specs::TurnTests::few_stays, alias_checks::specs::AccessTests::access_fits, alias_checks::specs::AccessTests::place_of, alias_checks::specs::AccessTests::pair_passes, alias_checks::specs::Areas::in_memory))]
+pub fn add_loop_is_checked()
+    ensures divided { answer add_check arrays.regs arrays.memory ≡ told 19 1 }
+    ensures in_place { answer add_check (summing_at 0x2_0000) areas ≡ told 19 1 }
+    ensures to_the_end { answer add_check (summing_at 0x2_0148) areas ≡ told 19 1 }
+    ensures beyond { answer add_check (summing_at 0x2_0150) areas ≡ None }
+    ensures overlapping { answer add_check (summing_at 0x2_0008) areas ≡ None }
+    ensures second { answer add_check (summing_at 0x2_00A8) areas ≡ None }
+{}
+
+/// The check of the nest with two cells tells one turn less than it goes round, of 3 passes each, where the cells are
+/// aligned and may be read, and the first of them written.
+#[tactic(auto, unfolding(alias_checks::specs::CellTests::cell_fits, alias_checks::specs::CellTests::are_clear, alias_checks::specs::Entry::entry, alias_checks::specs::Entry::start_value, alias_checks::specs::TurnTests::turns_of, alias_checks::specs::TurnTests::few_stays, alias_checks::specs::Areas::in_memory))]
+pub fn nest_is_checked()
+    ensures divided { answer nest_check (counting_at 0x2_0000 20) counting.memory ≡ told 19 3 }
+    ensures least { answer nest_check (counting_at 0x2_0000 17) counting.memory ≡ told 16 3 }
+    ensures fewer { answer nest_check (counting_at 0x2_0000 16) counting.memory ≡ None }
+    ensures misaligned { answer nest_check (counting_at 0x2_0004 20) counting.memory ≡ None }
+    ensures outside { answer nest_check (counting_at 0x2_0008 20) counting.memory ≡ None }
+    ensures in_code { answer nest_check (counting_at 0x1_0000 20) counting.memory ≡ None }
 {}
