@@ -16,11 +16,13 @@ use stack_slots::{cells, cells_are_found};
 use std::alloc::{AllocError, Global};
 
 mod access_rows;
+mod cell_rows;
 mod class_rows;
 mod form_rows;
 mod samples;
 mod trip_rows;
 mod value_rows;
+mod verdict_rows;
 
 use samples::Program;
 

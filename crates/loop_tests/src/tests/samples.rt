@@ -232,7 +232,7 @@ fn push_words(bytes: &mut Vec<u8>, words: &[u32]) -> Result<(), AllocError> {
 }
 
 // A file of one segment with this code and the call that ends the run.
-fn push_file(bytes: &mut Vec<u8>, code: &[u32]) -> Result<(), AllocError> {
+pub fn push_file(bytes: &mut Vec<u8>, code: &[u32]) -> Result<(), AllocError> {
     let size = 128 + 4 * (code.len() % 64) as u32;
     let headers = [
         0x464c_457f,
