@@ -1,0 +1,2 @@
+pub mod CellBases
+pub mod Held
