@@ -12,8 +12,9 @@ folder=$(mktemp -d)
 trap 'rm -rf "$folder"' EXIT
 cp "$root/crates/rewrite_cli/data/hello" "$folder/hello"
 
-# Two executables: `echo` reads 64 bytes, writes what it got and exits with code 0; `cat` reads up to 1,000
-# bytes and writes what it got, until there are no more.
+# Four executables: `echo` reads 64 bytes, writes what it got and exits with code 0; `cat` reads up to 1,000
+# bytes and writes what it got, until there are no more; `loops` has as many loops as may be chosen, and `crowded`
+# one more.
 python3 - "$folder" <<'PYTHON'
 import struct
 import sys
@@ -58,7 +59,10 @@ def executable(words):
     return header + segment + code
 
 
-for name, words in [("echo", ECHO), ("cat", CAT)]:
+LOOP = [0x00150513, 0xFEB51EE3]  # addi a0, a0, 1; bne a0, a1, -4
+EXIT = [0x05D00893, 0x00000073]  # addi a7, x0, 93; ecall
+
+for name, words in [("echo", ECHO), ("cat", CAT), ("loops", LOOP * 1024 + EXIT), ("crowded", LOOP * 1025 + EXIT)]:
     with open(f"{sys.argv[1]}/{name}", "wb") as file:
         file.write(executable(words))
 PYTHON
@@ -291,6 +295,17 @@ run 'rewrite_cli list hello >out 2>report </dev/null'
 case_is 'a list of no loops' 0 '' ''
 run 'rewrite_cli list new >out 2>report </dev/null'
 case_is 'a list of a rewritten file' 124 '' 'refused marked 1'
+loops=''
+for ((place = 0; place < 1024; place++)); do
+    printf -v loop 'loop 0x%08x parallel chosen\n' $((0x10078 + 8 * place))
+    loops+=$loop
+done
+run 'rewrite_cli list loops >out 2>report </dev/null'
+case_is 'a list of as many loops as may be chosen' 0 "$loops" ''
+run 'rewrite_cli list crowded >out 2>report </dev/null'
+case_is 'a list of one loop too many: no line is written' 124 '' 'refused too-many-loops 1025'
+run 'rewrite_cli list loops >/dev/full 2>report </dev/null'
+case_is 'a list to a full output' 127 '' ''
 run 'printf x >>new; rewrite_cli run new 1 >out 2>report </dev/null'
 case_is 'a rewritten file with one byte more' 124 '' 'refused altered 328'
 
@@ -302,6 +317,9 @@ case_is 'a sample' 0 '' 'made 336'
 run 'rewrite_cli run sample 1 >sum 2>report </dev/null' \
     'printf "\204\335\026\0\0\0\0\0" | cmp -s - sum'
 case_is 'a sample that runs' 0 '' $'hart 0 instructions 19021\nsteps 19021\nexit 0'
+run 'rewrite_cli list sample >out 2>report </dev/null'
+case_is 'a list of a sample' 0 \
+    $'loop 0x000100cc parallel chosen\nloop 0x000100f0 parallel chosen\nloop 0x0001011c carried x7\n' ''
 run 'rewrite_cli make stencil 2000000 square >out 2>report </dev/null' \
     '[ ! -e square ]'
 case_is 'a sample that is too large: nothing is saved' 124 '' 'refused too-large 2000000'

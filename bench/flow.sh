@@ -3,7 +3,9 @@
 # words, each a loop with a branch, a call and a pair of auipc and jalr. Then for three files that are hard
 # to list: 255 loops one in another in each of 1,023 blocks ('nested'), a chain laid out backwards inside 192
 # loops in each of 1,023 blocks ('backwards'), and a header with 2^16 closed edges, from the leaves of a tree
-# ('tree'). Lists each some times with the built program, and prints the least user time of each.
+# ('tree'). Then for a file of 1,000 loops of 256 words that are chosen, each with 32 stores to bytes of their own
+# ('verdicts'): each two of these are a pair that is tested. Lists each some times with the built program, and
+# prints the least user time of each and the most memory.
 # Usage: bench/flow.sh [RUNS], 3 runs by default.
 # Wants python3; examples/build.sh builds the program where it is not built yet.
 set -euo pipefail
@@ -40,6 +42,10 @@ NEXT_BLOCK = 0x40B51063  # bne x10, x11, 1024
 NESTED = [NEXT_BLOCK] + 254 * [BACK] + [JUMP_BACK]
 BACKWARDS = [NEXT_BLOCK] + 191 * [BACK] + [0x0FC0006F, 0xFF9FF06F] + 62 * [JUMP_BACK]
 
+# 32 stores to the 256 bytes of the turn, 222 words that take no part, and the step to the next turn.
+STORES = [0x00053023 | (8 * i >> 5) << 25 | (8 * i & 31) << 7 for i in range(32)]  # sd x0, 8 * i(x10)
+VERDICTS = STORES + 222 * [0x00168613] + [0x10050513, 0xC0B512E3]  # addi x12, x13, 1; addi x10, x10, 256; bne
+
 
 def jump(offset):
     """jal x0, by so many bytes"""
@@ -69,6 +75,7 @@ files = {str(power): BLOCK * (2**power // 8) for power in (14, 16, 18)}
 files["nested"] = NESTED * 1023 + [END]
 files["backwards"] = BACKWARDS * 1023 + [END]
 files["tree"] = tree(16)
+files["verdicts"] = VERDICTS * 1000 + [END]
 
 for name, words in files.items():
     code = struct.pack(f"<{len(words)}I", *words)
@@ -80,22 +87,24 @@ for name, words in files.items():
         file.write(header + segment + code)
 PYTHON
 
-for name in 14 16 18 nested backwards tree; do
-    best=
-    for ((run = 1; run <= runs; run++)); do
-        TIMEFORMAT=%U
-        status=0
-        seconds=$({ time "$program" list "$folder/$name" >/dev/null 2>"$folder/report" || status=$?; } 2>&1)
-        if [ "$status" != 0 ]; then
-            cat "$folder/report" >&2
-            exit 1
-        fi
-        if [ -z "$best" ] || awk "BEGIN { exit !($seconds < $best) }"; then
-            best=$seconds
-        fi
-    done
-    case $name in
-    [0-9]*) echo "2^$name words: $best s of user time" ;;
-    *) echo "$name: $best s of user time" ;;
-    esac
-done
+# The least user time of so many lists, and the most memory of any.
+python3 - "$program" "$folder" "$runs" <<'PYTHON'
+import os
+import subprocess
+import sys
+
+program, folder, runs = sys.argv[1], sys.argv[2], int(sys.argv[3])
+for name in ["14", "16", "18", "nested", "backwards", "tree", "verdicts"]:
+    seconds, memory = [], []
+    for _ in range(runs):
+        with open(f"{folder}/report", "wb") as report:
+            child = subprocess.Popen([program, "list", f"{folder}/{name}"], stdout=subprocess.DEVNULL, stderr=report)
+            _, status, usage = os.wait4(child.pid, 0)
+        if status != 0:
+            sys.stderr.write(open(f"{folder}/report").read())
+            sys.exit(1)
+        seconds.append(usage.ru_utime)
+        memory.append(usage.ru_maxrss)
+    what = f"2^{name} words" if name.isdigit() else name
+    print(f"{what}: {min(seconds):.2f} s of user time, {max(memory) // 1024} MB")
+PYTHON

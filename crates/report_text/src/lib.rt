@@ -6,5 +6,5 @@ mod lines;
 #[cfg(test)]
 mod tests;
 
-pub use laws::addresses_are_hexadecimal;
-pub use lines::early_line;
+pub use laws::{addresses_are_hexadecimal, loops_have_one_line};
+pub use lines::loop_line;

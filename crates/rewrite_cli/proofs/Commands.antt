@@ -16,7 +16,13 @@ use Rattle.serial_run.specs.declared.machine.End.TheVariants.{ReadFault as Sourc
 use Rattle.sample_maker.specs.declared.Kind.{Kind}
 use Rattle.sample_maker.specs.Sample.{sample_bytes, limit}
 use Rattle.rewrite_cli.specs.Words.{Run, Rewrite, Loops, Make}
-use Rattle.rewrite_cli.specs.Listing.{Lines, TooMany, IsListing}
+use Rattle.loop_choice.specs.declared.judged.Judged.{Judged}
+use Rattle.loop_choice.specs.declared.refusal.ChooseErr.{ChooseErr}
+use Rattle.loop_choice.specs.declared.refusal.ChooseErr.TheVariants.{TooManyLoops as Crowded}
+use Rattle.loop_choice.specs.Choice.{AreTooMany, IsChoiceRefused}
+use Rattle.rewrite_cli.specs.Listing.{Listing, Lines, TooMany, TooManyChosen, AreVerdicts, ChoosesTooMany}
+use Rattle.rewrite_cli.specs.Listing.{IsListing}
+use Rattle.rewrite_cli.specs.declared.status.Reason.TheVariants.{TooManyWords, TooManyLoops}
 use Rattle.rewrite_cli.specs.Needs.{LacksOne}
 use Rattle.rewrite_cli.specs.Counts.{no_counts, of_sample}
 use Rattle.rewrite_cli.specs.Texts.{report_of}
@@ -26,7 +32,6 @@ use Rattle.rewrite_cli.specs.Effect.{OfReading, Runs, RunsFile, ListsFile, OfFil
 use Rattle.rewrite_cli.specs.Effect.{listed, image_saved, counts_of, sample_saved, MakesSample}
 use Rattle.rewrite_cli.specs.Answer.{Stored, Stream, Outside, outside, Appends, AreSaved, StayBut, IsMet, Stops}
 use Rattle.rewrite_cli.specs.Answer.{HasCause, IsDone, RunsTo}
-use Rattle.rewrite_cli.specs.declared.status.Reason.TheVariants.{TooManyWords}
 use Rattle.rewrite_cli.specs.declared.status.Status.{Status}
 use Rattle.rewrite_cli.specs.declared.status.Status.TheVariants.{Done, Usage, Refused, OutOfMemory, WriteFault}
 use Rattle.rewrite_cli.specs.declared.status.Status.TheVariants.{StoreFault, ReadFault}
@@ -129,9 +134,30 @@ lines_do content lines xs h =
     (let does : OfReading xs (reading_of h.bytes) (listed (Lines lines) xs) = rw h.read
     (Lines lines, (h.lines_are, refl)) in does)
 
-pub many_do : (reading : Result Elf ElfErr) (elf : Elf) (status : Status) (count : ℕ) (xs : List ℕ) → reading ≡ Ok elf
-    → status ≡ Refused (TooManyWords count) → IsListing elf (TooMany count) → OfReading xs reading (only status xs)
-many_do reading elf status count xs e s many = rw e (TooMany count, (many, ap (λ (v : Status). only v xs) s))
+-- a list that is refused, by what it would have
+pub refused_list : (reading : Result Elf ElfErr) (elf : Elf) (status : Status) (listing : Listing) (xs : List ℕ)
+    → reading ≡ Ok elf → IsListing elf listing → only status xs ≡ listed listing xs
+    → OfReading xs reading (only status xs)
+refused_list reading elf status listing xs e is same = rw e (listing, (is, same))
+
+-- what is listed of an executable of which too many words are reached
+pub too_many_reached : (elf : Elf) (status : Status)
+    → (count : ℕ) × (status ≡ Refused (TooManyWords count)) × IsListing elf (TooMany count)
+    → (listing : Listing) × IsListing elf listing × ((xs : List ℕ) → only status xs ≡ listed listing xs)
+too_many_reached elf status h = (TooMany h.0, h.2, λ xs. ap (λ (v : Status). only v xs) h.1)
+
+-- and of one of which too many loops are chosen
+pub too_many_chosen : (elf : Elf) (all slice : List Judged) (why : ChooseErr) (count : ℕ) → slice ≡ all
+    → AreVerdicts elf all → why ≡ Crowded count → IsChoiceRefused slice why → (listing : Listing)
+    × IsListing elf listing × ((xs : List ℕ) → only (Refused (TooManyLoops count)) xs ≡ listed listing xs)
+too_many_chosen elf all slice why count same verdicts is refused =
+    let many : AreTooMany slice count = subst (λ (v : ChooseErr). IsChoiceRefused slice v) is refused in
+    let chosen : ChoosesTooMany elf count = record {
+      all = all;
+      verdicts = verdicts;
+      many = subst (λ (v : List Judged). AreTooMany v count) same many;
+    } in
+    (TooManyChosen count, chosen, λ xs. refl)
 
 pub listed_done : (file lines : List ℕ) (store now : Stored) (input output written : Stream) (answer : Status)
     (text : List ℕ) → answer ≡ Done → text ≡ [] → now.files ≡ store.files

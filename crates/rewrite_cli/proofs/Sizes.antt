@@ -12,7 +12,7 @@ use Rattle.loop_data.specs.Graphs.{IsGraph}
 use Rattle.loop_data.specs.Paths.{addresses_of}
 use Rattle.loop_data.specs.Reaching.{Reached}
 
-in_code_below : (segments : List Segment) (from addr : ℕ) → LieFrom from segments → in_code segments addr ≡ true
+pub in_code_below : (segments : List Segment) (from addr : ℕ) → LieFrom from segments → in_code segments addr ≡ true
     → addr < 0x5000_0008
 in_code_below [] from addr lie h = absurd (cc)
 in_code_below (s ∷ rest) from addr lie h =
@@ -34,7 +34,7 @@ index_below xs rises (suc k) within =
     let before = index_below xs rises k (omega arith) in
     rw e (omega arith)
 
-last_below : (xs : List ℕ) (n bound : ℕ) → IsStrictlyIncreasing xs → length xs ≡ n
+pub last_below : (xs : List ℕ) (n bound : ℕ) → IsStrictlyIncreasing xs → length xs ≡ n
     → ((a : ℕ) → Contains xs a → a < bound) → n ≤ bound
 last_below xs zero bound rises e all = omega arith
 last_below xs (suc n) bound rises e all =

@@ -21,14 +21,14 @@ use Rattle.rewriter.specs.Admission.{Admission, Admitted, Bad, Refused as IsRefu
 use Rattle.sample_maker.specs.declared.Kind.{Kind}
 use Rattle.sample_maker.specs.Sample.{sample_bytes, limit}
 use Rattle.rewrite_cli.specs.Words.{Command, Run, Rewrite, Loops, Make}
-use Rattle.rewrite_cli.specs.Listing.{Listing, Lines, TooMany, AreLines, IsListing}
+use Rattle.rewrite_cli.specs.Listing.{Listing, Lines, TooMany, TooManyChosen, AreLines, IsListing}
 use Rattle.rewrite_cli.specs.Status.{is_ending}
 use Rattle.rewrite_cli.specs.Counts.{of_steps, of_sample, no_counts}
 use Rattle.rewrite_cli.specs.Refusals.{refusal_of}
 use Rattle.rewrite_cli.specs.Texts.{report_of}
 use Rattle.rewrite_cli.specs.declared.counts.Counts.{Counts}
 use Rattle.rewrite_cli.specs.declared.counts.Counts.TheVariants.{Image as Adds}
-use Rattle.rewrite_cli.specs.declared.status.Reason.TheVariants.{LoadTooLong, TooManyWords, BadMark, Altered, TooLarge}
+use Rattle.rewrite_cli.specs.declared.status.Reason.TheVariants.{LoadTooLong, TooManyWords, TooManyLoops, BadMark, Altered, TooLarge}
 use Rattle.rewrite_cli.specs.declared.status.Status.{Status}
 use Rattle.rewrite_cli.specs.declared.status.Status.TheVariants.{Done, Exited, Faulted, Spent, Usage, Refused}
 use Rattle.rewrite_cli.specs.declared.status.Status.TheVariants.{ReadFault, WriteFault, OutOfMemory}
@@ -142,6 +142,7 @@ RewritesFile new input bytes effect = OfRewriting new input (rewriting_of bytes)
 abbrev pub listed : Listing → List ℕ → Effect
 listed (Lines lines) input = record { status = Done; output = lines; rest = input; report = []; saved = [] }
 listed (TooMany count) input = only (Refused (TooManyWords count)) input
+listed (TooManyChosen count) input = only (Refused (TooManyLoops count)) input
 
 abbrev pub OfReading : List ℕ → Result Elf ElfErr → Effect → Type 0
 OfReading input (Ok elf) effect = (listing : Listing) × (IsListing elf listing × (effect ≡ listed listing input))

@@ -1,13 +1,18 @@
-ghost use Rattle.std.specs.Prelude.{◌≡◌, ◌≢◌, ◌≤◌, ◌⊎◌, ℕ, List, Ok, Some, string_bytes, true, false, IfOk, IfErr};
+ghost use Rattle.std.specs.Prelude.{◌≡◌, ◌≢◌, ◌≤◌, ◌<◌, ◌^◌, ◌⊎◌, ℕ, List, Ok, Some, length, string_bytes, true, false, IfOk, IfErr};
+ghost use Rattle.std.specs.List.Sorted.{IsStrictlyIncreasing};
 ghost use Rattle.outside_ports.specs.Ports.{Files, Rose, Lacks};
 ghost use Rattle.elf_image.specs.Layout.{IsLoadable};
 ghost use Rattle.elf_image.specs.Reading.{reading_of};
 ghost use Rattle.elf_image.specs.declared.image.Elf.{Elf as Shown};
+ghost use Rattle.loop_data.specs.Graphs.{IsGraph};
+ghost use Rattle.loop_data.specs.Loops.{AreLoops};
+ghost use Rattle.loop_choice.specs.Judging.{IsOneOfLoops};
 ghost use Rattle.rewrite_cli.specs.Status.{is_from_outside, is_refusal, comes_first};
 ghost use Rattle.rewrite_cli.specs.Words.{Loops};
 ghost use Rattle.rewrite_cli.specs.Reading.{text_of};
-ghost use Rattle.rewrite_cli.specs.Listing.{TooMany, AreLines, IsListing, lines_of};
-ghost use Rattle.rewrite_cli.specs.Effect.{Does, ListsFile, HoldsLines, only};
+ghost use Rattle.rewrite_cli.specs.Listing.{Listing, TooMany, IsJudgedAs, AreJudgedAs, AreVerdicts, AreLines, IsListing};
+ghost use Rattle.rewrite_cli.specs.Listing.{is_among, lines_of};
+ghost use Rattle.rewrite_cli.specs.Effect.{Does, ListsFile, HoldsLines, only, listed};
 ghost use Rattle.rewrite_cli.specs.Answer.{IsDone, Stream, outside, stored, stream};
 
 use crate::counts::NO_COUNTS;
@@ -19,28 +24,89 @@ use crate::status::{Reason, Status};
 use elf_image::{Elf, read_elf};
 use flow_recovery::laws::{reached_words, starts};
 use flow_recovery::{FlowErr, recover};
-use loop_data::LoopShape;
+use loop_choice::{ChooseErr, Judged, choose, judge};
+use loop_data::{Graph, LoopShape};
 use loop_shapes::loops;
 use outside_ports::{Sink, Store};
-use report_text::early_line;
+use report_text::loop_line;
 use std::alloc::{AllocError, Global};
 
+// The verdict of a loop. A plan of how its turns are divided is let go.
+fn judged_as(
+    alloc: Global,
+    graph: &Graph,
+    elf: &Elf,
+    shape: &LoopShape,
+) -> Result<Judged, AllocError>
+    requires loadable { IsLoadable elf.now }
+    requires graph { IsGraph elf.now graph.now }
+    requires shape { IsOneOfLoops graph.now shape.now }
+    ensures { IfOk result (IsJudgedAs graph.now shape.now) }
+{
+    let judged = judge(alloc, graph, elf, shape)?;
+    let Judged {
+        header,
+        body,
+        verdict,
+        plan: _,
+    } = judged;
+    Ok(Judged {
+        header,
+        body,
+        verdict,
+        plan: None,
+    })
+}
+
+// The verdicts of all loops.
+fn judge_all(
+    alloc: Global,
+    graph: &Graph,
+    elf: &Elf,
+    shapes: &[LoopShape],
+) -> Result<Vec<Judged>, AllocError>
+    requires loadable { IsLoadable elf.now }
+    requires graph { IsGraph elf.now graph.now }
+    requires shapes { AreLoops graph.now shapes.now }
+    ensures { IfOk result (λ v. AreJudgedAs graph.now shapes.now v.items) }
+{
+    let mut all = Vec::new(alloc);
+    for shape in shapes {
+        let judged = judged_as(alloc, graph, elf, shape)?;
+        all.push(judged)?;
+    }
+    Ok(all)
+}
+
+// Whether a place is one of these.
+fn is_among(places: &[u32], place: u32) -> bool
+    requires { IsStrictlyIncreasing places.now }
+    ensures { result ≡ is_among places.now place }
+{
+    match places.binary_search(&place) {
+        Ok(_) => true,
+        Err(_) => false,
+    }
+}
+
 // A line for each loop.
-fn lines_from(alloc: Global, shapes: &[LoopShape]) -> Result<String, AllocError>
-    ensures { IfOk result (λ s. string_bytes s ≡ lines_of shapes.now) }
+fn lines_from(alloc: Global, all: &[Judged], chosen: &[u32]) -> Result<String, AllocError>
+    requires ordered { IsStrictlyIncreasing chosen.now }
+    requires few { length all.now < 2 ^ 32 }
+    ensures { IfOk result (λ s. string_bytes s ≡ lines_of chosen.now all.now) }
 {
     let mut text = String::new(alloc);
-    for shape in shapes {
-        let line = early_line(alloc, shape)?;
+    for place in 0..all.len() {
+        let line = loop_line(alloc, &all[place], is_among(chosen, place as u32))?;
         text.push_str(line.as_str())?;
     }
     Ok(text)
 }
 
-// The lines of the loops of an executable.
-fn lines_in(alloc: Global, elf: &Elf) -> Result<String, Status>
+// The verdicts of the loops of an executable, by header.
+fn verdicts_in(alloc: Global, elf: &Elf) -> Result<Vec<Judged>, Status>
     requires { IsLoadable elf.now }
-    ensures made { IfOk result (λ s. AreLines elf.now (string_bytes s)) }
+    ensures made { IfOk result (λ v. AreVerdicts elf.now v.items) }
     ensures refused { IfErr result (λ e. is_from_outside e ≡ false → (count : ℕ)
         × (e ≡ Status.Refused (Reason.TooManyWords count))
         × IsListing elf.now (TooMany count)) }
@@ -58,7 +124,33 @@ fn lines_in(alloc: Global, elf: &Elf) -> Result<String, Status>
     let Ok(shapes) = loops(alloc, &graph) else {
         return Err(Status::OutOfMemory);
     };
-    match lines_from(alloc, shapes.as_slice()) {
+    match judge_all(alloc, &graph, elf, shapes.as_slice()) {
+        Ok(all) => Ok(all),
+        Err(_) => Err(Status::OutOfMemory),
+    }
+}
+
+// The lines of the loops of an executable.
+fn lines_in(alloc: Global, elf: &Elf) -> Result<String, Status>
+    requires { IsLoadable elf.now }
+    ensures made { IfOk result (λ s. AreLines elf.now (string_bytes s)) }
+    ensures refused { IfErr result (λ e. is_from_outside e ≡ false → (listing : Listing)
+        × IsListing elf.now listing × ((xs : List ℕ) → only e xs ≡ listed listing xs)) }
+    ensures kind { IfErr result (λ e. (is_refusal e ≡ true) × (e ≢ Status.StoreFault)) }
+{
+    reached_words();
+    let all = match verdicts_in(alloc, elf) {
+        Ok(all) => all,
+        Err(status) => return Err(status),
+    };
+    let chosen = match choose(alloc, all.as_slice()) {
+        Ok(chosen) => chosen,
+        Err(ChooseErr::TooManyLoops { count }) => {
+            return Err(Status::Refused(Reason::TooManyLoops { count }));
+        }
+        Err(ChooseErr::OutOfMemory) => return Err(Status::OutOfMemory),
+    };
+    match lines_from(alloc, all.as_slice(), chosen.as_slice()) {
         Ok(text) => Ok(text),
         Err(_) => Err(Status::OutOfMemory),
     }

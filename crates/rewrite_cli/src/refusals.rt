@@ -62,6 +62,7 @@ fn name_of(why: Reason) -> &'static str
         Reason::Overlap { .. } => "overlap",
         Reason::EntryOutside { .. } => "entry-outside",
         Reason::TooManyWords { .. } => "too-many-words",
+        Reason::TooManyLoops { .. } => "too-many-loops",
         Reason::BadMark => "bad-mark",
         Reason::Altered { .. } => "altered",
         Reason::TooLarge { .. } => "too-large",
@@ -95,6 +96,7 @@ fn fields_of(why: Reason) -> (Option<u128>, Option<u128>)
         Reason::Overlap { first, second } => (Some(u128::from(first)), Some(u128::from(second))),
         Reason::EntryOutside { entry } => (Some(u128::from(entry)), None),
         Reason::TooManyWords { count } => (Some(u128::from(count)), None),
+        Reason::TooManyLoops { count } => (Some(u128::from(count)), None),
         Reason::Altered { offset } => (Some(u128::from(offset)), None),
         Reason::TooLarge { n } => (Some(u128::from(n)), None),
     }

@@ -51,6 +51,8 @@ pub enum Reason {
     EntryOutside { entry: u64 },
     /// More than 262,144 words are reached. The count is 262,145, where the search stops.
     TooManyWords { count: u64 },
+    /// So many loops would be chosen to be divided, which is more than 1,024.
+    TooManyLoops { count: u64 },
     /// The file is marked as an image, but not whole.
     BadMark,
     /// The file is not the image of its original part: the first byte that differs, or the shorter

@@ -92,7 +92,7 @@ fn answers_have_their_lines_and_numbers(rt: HostRuntime) -> Result<(), AllocErro
     check_answers(&rt, rt.alloc())
 }
 
-static REFUSALS: [(Reason, &str); 22] = [
+static REFUSALS: [(Reason, &str); 23] = [
     (
         Reason::TooLong { length: u64::MAX },
         "too-long 18446744073709551615",
@@ -133,6 +133,7 @@ static REFUSALS: [(Reason, &str); 22] = [
         Reason::EntryOutside { entry: 65_536 },
         "entry-outside 65536",
     ),
+    (Reason::TooManyLoops { count: 1_025 }, "too-many-loops 1025"),
     (Reason::BadMark, "bad-mark"),
     (Reason::Altered { offset: 584 }, "altered 584"),
     (

@@ -1,6 +1,7 @@
 use Rattle.std.proofs.Common.{◌≡◌, ◌++◌, drop, string_bytes}
-use Rattle.rewrite_cli.specs.Listing.{lines_of}
+use Rattle.rewrite_cli.specs.Listing.{lines_from, lines_of}
 use Rattle.rewrite_cli.proofs.listing.lines_from.Given as goal
 
-abbrev pub invariant-loop-shape : goal.invariant-loop-shape
-invariant-loop-shape l = string_bytes l.text ++ lines_of (drop l.shape-index l.shapes) ≡ lines_of l.shapes
+abbrev pub invariant-loop-place : goal.invariant-loop-place
+invariant-loop-place l =
+    string_bytes l.text ++ lines_from l.place l.chosen (drop l.place l.all) ≡ lines_of l.chosen l.all
