@@ -1,0 +1,14 @@
+pub mod Small
+pub mod Steps
+pub mod Opens
+pub mod Places
+pub mod Straight
+pub mod Known
+pub mod Tests
+pub mod Choices
+pub mod Logs
+pub mod Exact
+pub mod Ends
+pub mod Appends
+pub mod Runs
+pub mod SoundRuns
