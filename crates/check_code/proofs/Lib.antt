@@ -1,0 +1,5 @@
+pub mod Pieces
+pub mod Values
+pub mod Runs
+pub mod Appends
+pub mod Asked

@@ -1,0 +1,14 @@
+//! The words that a loop's check is written as, piece by piece, and what each piece does where one hart runs it.
+#![tactic(auto)]
+
+mod laws;
+pub mod macros;
+pub mod ranges;
+#[cfg(test)]
+mod tests;
+
+pub use laws::{
+    a_branch_is_needed, areas_are_tried, cells_are_addressed, forms_are_worked_out,
+    greatest_values_are_worked_out, least_values_are_worked_out, locations_are_brought,
+    numbers_are_made, spans_are_added,
+};
