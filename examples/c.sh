@@ -2,8 +2,8 @@
 # Compiles the C programs of c/ for RV64IM without and with optimisation, runs each with the proved
 # program, before and after rewriting, and compares output and exit status with those that qemu-riscv64
 # gives, where that is installed. Then lists the loops of each, and of a program of more than 100,000 bytes
-# of code. Prints a line for each, with the time that a list took, and ends with status 1 where two differ, or
-# where a list is refused.
+# of code, and holds the page of verdicts against what the programs of verdicts/ get (verdicts.sh). Prints a line
+# for each, with the time that a list took, and ends with status 1 where two differ, or where a list is refused.
 # Takes no arguments and works from any folder. Wants Debian's gcc-riscv64-unknown-elf; without it
 # nothing is done. qemu-riscv64 is in Debian's qemu-user.
 set -euo pipefail
@@ -95,4 +95,6 @@ list() {
 for executable in "$folder"/*-O0 "$folder"/*-O2; do
     list "$(basename "$executable")"
 done
+PROGRAM=$program "$here/verdicts.sh" >"$folder/verdicts.md"
+compare "docs/VERDICTS.md" "$here/../docs/VERDICTS.md" "$folder/verdicts.md"
 exit "$failed"
