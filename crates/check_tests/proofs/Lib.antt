@@ -1,2 +1,1 @@
-pub mod CellBases
 pub mod Held

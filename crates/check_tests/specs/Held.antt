@@ -1,6 +1,5 @@
 -- What a check that holds at the start of a program says of a loop.
 use Rattle.std.specs.Prelude.{ℕ, List}
-use Rattle.std.specs.List.{All}
 use Rattle.elf_image.specs.declared.image.Elf.{Elf}
 use Rattle.guest_memory.specs.Areas.{areas_of}
 use Rattle.rv64_decode.specs.declared.outcome.Next.TheVariants.{At}
@@ -8,15 +7,11 @@ use Rattle.loop_data.specs.declared.graph.Graph.{Graph}
 use Rattle.loop_data.specs.declared.plans.Plan.{Plan}
 use Rattle.loop_data.specs.declared.shape.Level.{Level}
 use Rattle.loop_data.specs.declared.shape.LoopShape.{LoopShape}
-use Rattle.loop_data.specs.declared.verdict.Cell.{Cell}
 use Rattle.loop_data.specs.Independent.{Independent}
 use Rattle.loop_data.specs.LoopWords.{AreNest}
 use Rattle.loop_data.specs.Lookups.{cell_map}
 use Rattle.loop_data.specs.Runs.{State}
 use Rattle.alias_checks.specs.declared.lists.Check.{Check}
-use Rattle.alias_checks.specs.Areas.{AreBoundsOf}
-use Rattle.alias_checks.specs.CellTests.{HasRegister}
-use Rattle.alias_checks.specs.Listing.{ArePairs}
 use Rattle.loop_choice.specs.Independence.{roles_of}
 use Rattle.loop_choice.specs.Judging.{IsPlanOf}
 
@@ -33,10 +28,3 @@ pub record AreDivided (elf : Elf) (G : Graph) (shape : LoopShape) (regs : List �
   pub independent :
       Independent nest.root (cell_map plan.cells) (roles_of G shape.levels plan nest.root)
       (arrived elf nest.root regs) p
-
--- a check can be asked at the start of an executable: the bases of its cells are registers, its pairs are those of its
--- accesses, and its areas those of the executable
-pub record CanBeAsked (elf : Elf) (check : Check) : Type 0 where
-  pub registers : All (λ (c : Cell). HasRegister c.base) check.cells.list.items
-  pub pairs : ArePairs check.accesses.list.items check.pairs
-  pub areas : AreBoundsOf check.areas (areas_of elf)

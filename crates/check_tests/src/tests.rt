@@ -7,18 +7,17 @@ ghost use Rattle.serial_run.specs.Sound.{HaveBytes};
 ghost use Rattle.loop_data.specs.Graphs.{IsGraph};
 ghost use Rattle.loop_data.specs.LoopWords.{AreNest};
 ghost use Rattle.loop_shapes.specs.Places.{count_of};
+ghost use Rattle.loop_choice.specs.Asking.{CanBeAsked};
 ghost use Rattle.loop_choice.specs.Judging.{IsOneOfLoops, IsPlanOf};
-ghost use Rattle.check_tests.specs.Held.{AreDivided, CanBeAsked};
+ghost use Rattle.check_tests.specs.Held.{AreDivided};
 
 use alias_checks::holds;
-use alias_checks::laws::bounds_tell_areas;
 use elf_image::{Bytes, Elf, Segment, Segments, read_elf};
 use flow_recovery::laws::starts;
 use flow_recovery::recover;
 use guest_memory::build;
-use loop_choice::laws::held_turns_are_independent;
+use loop_choice::laws::{held_turns_are_independent, plans_can_be_asked};
 use loop_choice::{PlanAndCheck, judge};
-use loop_data::laws::one_pass;
 use loop_data::{Graph, LoopShape};
 use loop_shapes::laws::nests;
 use loop_shapes::loops;
@@ -177,8 +176,7 @@ fn can_be_asked(elf: &Elf, graph: &Graph, shape: &LoopShape, both: &PlanAndCheck
     requires plan { IsPlanOf graph.now elf.now shape.now both.now.0 both.now.1 }
     ensures { CanBeAsked elf.now both.now.1 }
 {
-    one_pass();
-    bounds_tell_areas();
+    plans_can_be_asked();
 }
 
 // What the check of a plan tells at the start of the program. So many turns are independent.

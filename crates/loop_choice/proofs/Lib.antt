@@ -22,3 +22,5 @@ pub mod OneDependence
 pub mod OneVerdict
 pub mod OnePlan
 pub mod Ordered
+pub mod Asking
+pub mod SameChoice

@@ -1,5 +1,5 @@
 -- The loops that are chosen to be divided.
-use Rattle.std.specs.Prelude.{ℕ, ◌≡◌, ◌≢◌, ◌≤◌, ◌<◌, List, length, map, Some, slice_get}
+use Rattle.std.specs.Prelude.{ℕ, ◌≡◌, ◌≢◌, ◌≤◌, ◌<◌, List, [], ◌∷◌, length, map, Some, slice_get}
 use Rattle.std.specs.List.{Contains}
 use Rattle.loop_data.specs.declared.verdict.Verdict.TheVariants.{Parallel}
 use Rattle.loop_data.specs.Sets.{IsListOf, HasCount}
@@ -47,3 +47,15 @@ pub record OneChoiceLaw : Type 0 where
   pub places : (all : List Judged) (xs ys : List ℕ) → AreChosen all xs → AreChosen all ys → xs ≡ ys
   pub counts : (all : List Judged) (m n : ℕ) → AreTooMany all m → AreTooMany all n → m ≡ n
   pub apart : (all : List Judged) (xs : List ℕ) (n : ℕ) → AreChosen all xs → ¬ AreTooMany all n
+
+-- two lists of loops have the same headers, bodies and verdicts
+abbrev pub HaveSameVerdicts : List Judged → List Judged → Type 0
+HaveSameVerdicts [] [] = Unit {0}
+HaveSameVerdicts (j ∷ js) (k ∷ ks) =
+    (j.header ≡ k.header) × (j.body ≡ k.body) × (j.verdict ≡ k.verdict) × HaveSameVerdicts js ks
+HaveSameVerdicts js ks = ⊥
+
+-- then the same are chosen
+abbrev pub SameChoiceLaw : Type 0
+SameChoiceLaw = (all other : List Judged) (place : ℕ) → HaveSameVerdicts all other → IsChosen all place
+    → IsChosen other place

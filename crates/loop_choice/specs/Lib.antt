@@ -8,3 +8,4 @@ pub mod Choosing
 pub mod OneVerdict
 pub mod OnePlan
 pub mod Independence
+pub mod Asking

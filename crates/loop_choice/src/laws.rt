@@ -1,11 +1,13 @@
-ghost use Rattle.loop_choice.specs.Choice.{OneChoiceLaw};
+ghost use Rattle.loop_choice.specs.Asking.{AskingLaw};
+ghost use Rattle.loop_choice.specs.Choice.{OneChoiceLaw, SameChoiceLaw};
 ghost use Rattle.loop_choice.specs.Independence.{IndependenceLaw, StayLaw};
 ghost use Rattle.loop_choice.specs.OnePlan.{OnePlanLaw};
 ghost use Rattle.loop_choice.specs.OneVerdict.{OneNestVerdictLaw, OneVerdictLaw};
 
 use affine_addresses::laws::{addresses_are_values, each_access_is_listed, one_list_of_accesses};
 use alias_checks::laws::{
-    answers_tell_tests, entry_values_are_of_states, held_values_do_not_wrap, one_list_of_pairs,
+    answers_tell_tests, bounds_tell_areas, entry_values_are_of_states, held_values_do_not_wrap,
+    one_list_of_pairs,
 };
 use apart_turns::laws::held_turns_are_apart;
 use distance_vectors::laws::one_distance;
@@ -19,6 +21,11 @@ use trip_counts::laws::{one_trip, trips_tell_stays};
 /// There is one choice of loops.
 pub fn one_choice()
     ensures { OneChoiceLaw }
+{}
+
+/// Which loops are chosen depends on their headers, bodies and verdicts alone.
+pub fn choices_are_by_verdicts()
+    ensures { SameChoiceLaw }
 {}
 
 /// The verdict of a nest whose shape decides none is determined by its definition.
@@ -73,4 +80,13 @@ pub fn held_turns_are_independent()
     entry_values_are_of_states();
     held_values_do_not_wrap();
     held_turns_are_apart();
+}
+
+/// The check of a loop that is judged Parallel can be asked: its cells have registers as bases and offsets that have
+/// room in an instruction, its pairs are those of its accesses, and its areas those with which the executable starts.
+pub fn plans_can_be_asked()
+    ensures { AskingLaw }
+{
+    cells_are_found();
+    bounds_tell_areas();
 }

@@ -40,7 +40,7 @@ use Rattle.stack_slots.specs.declared.words.BodyWord.{BodyWord}
 use Rattle.stack_slots.specs.declared.words.KnownAddress.{KnownAddress}
 use Rattle.stack_slots.specs.declared.words.Touch.{Touch}
 use Rattle.stack_slots.specs.CellRules.{uses_cell, is_of_cell, is_first_use, first_uses, cell_with, cell_of, is_stored, is_far_auipc, limit_at, limit_of}
-use Rattle.stack_slots.specs.CellLaws.{NumberedLaw, FoundLaw, BasesLaw}
+use Rattle.stack_slots.specs.CellLaws.{NumberedLaw, FoundLaw, BasesLaw, HasOffset, OffsetsLaw}
 use Rattle.stack_slots.specs.Results.{AreUses, HasCells, AreCellsOf}
 use Rattle.stack_slots.specs.Touches.{is_kept, known_by, known_address, loads_cells, stores_cells, accesses_cells, touch_with, touch_by, touch_of, word_at, words_of}
 use Rattle.stack_slots.proofs.Members.{to_member, from_member, kept_member, kept_source}
@@ -95,12 +95,16 @@ near_number z e = let p = between_is (pos 0) (pos 0x7FFF_F800) z e in let a = p.
 near_offset : (z : ℤ) → between (negsuc 2047) (pos 2048) z ≡ true → IsSigned 32 z
 near_offset z e = let p = between_is (negsuc 2047) (pos 2048) z e in let a = p.0 in let b = p.1 in (omega (arith, ints), omega (arith, ints))
 
+short_offset : (z : ℤ) → between (negsuc 2047) (pos 2048) z ≡ true → IsSigned 12 z
+short_offset z e = let p = between_is (negsuc 2047) (pos 2048) z e in let a = p.0 in let b = p.1 in (omega (arith, ints), omega (arith, ints))
+
 -- what is known of an address that is known
 record Known (G : Graph) (C : CellMap) (l : Level) (o : Option Fact) (a : KnownAddress) : Type 0 where
   pub fact : o ≡ Some (address_by a.base a.offset)
   pub base : (N : Nest) → N.root ≡ l → HasFixedBase N (code_of G C) a.base
   pub kept : (q : ℕ) → a.base ≡ Some q → (1 ≤ q) × (q < first_cell) × IsUnwritten (code_of G C) l q
   pub near : IsSigned 32 a.offset
+  pub offset : HasOffset a.base a.offset
 
 known_is : (G : Graph) (C : CellMap) (l : Level) (o : Option Fact) (a : KnownAddress) → known_by (is_kept (code_of G no_cells) l.body) o ≡ Some a → Known G C l o a
 known_is G C l None a e = absurd (cc)
@@ -109,7 +113,7 @@ known_is G C l (Some (Number z)) a e = go (between (pos 0) (pos 0x7FFF_F800) z) 
     go : (b : Bool) → between (pos 0) (pos 0x7FFF_F800) z ≡ b → (if b then Some (record { base = None; offset = z }) else None) ≡ Some a → Known G C l (Some (Number z)) a
     go true f h =
         let q : record { base = None; offset = z } ≡ a = cc in
-        subst (Known G C l (Some (Number z))) q (record { fact = refl; base = λ N e. tt; kept = λ q k. absurd (cc); near = near_number z f })
+        subst (Known G C l (Some (Number z))) q (record { fact = refl; base = λ N e. tt; kept = λ q k. absurd (cc); near = near_number z f; offset = between_is (pos 0) (pos 0x7FFF_F800) z f })
     go false f h = absurd (cc)
 known_is G C l (Some (Offset q z)) a e = go (is_kept (code_of G no_cells) l.body q) refl (between (negsuc 2047) (pos 2048) z) refl e
   where
@@ -117,7 +121,7 @@ known_is G C l (Some (Offset q z)) a e = go (is_kept (code_of G no_cells) l.body
         → (if k then (if b then Some (record { base = Some q; offset = z }) else None) else None) ≡ Some a → Known G C l (Some (Offset q z)) a
     go true g true f h =
         let y : record { base = Some q; offset = z } ≡ a = cc in
-        subst (Known G C l (Some (Offset q z))) y (record { fact = refl; base = λ N e. subst (λ (m : Level). (q < first_cell) × IsUnwritten (code_of G C) m q) (sym e) (let k = kept_is G C l q g in (k.1, k.2)); kept = λ r k. kept_is G C l r (let x : q ≡ r = cc in subst (λ n. is_kept (code_of G no_cells) l.body n ≡ true) x g); near = near_offset z f })
+        subst (Known G C l (Some (Offset q z))) y (record { fact = refl; base = λ N e. subst (λ (m : Level). (q < first_cell) × IsUnwritten (code_of G C) m q) (sym e) (let k = kept_is G C l q g in (k.1, k.2)); kept = λ r k. kept_is G C l r (let x : q ≡ r = cc in subst (λ n. is_kept (code_of G no_cells) l.body n ≡ true) x g); near = near_offset z f; offset = short_offset z f })
     go true g false f h = absurd (cc)
     go false g b f h = absurd (cc)
 
@@ -205,16 +209,18 @@ cell_by stored t = record { base = t.address.base; offset = t.address.offset; wi
 cell_is : (words : List BodyWord) (w : BodyWord) (t : Touch) → w.touch ≡ Some t → t.of_cell ≡ true → cell_of words w ≡ Some (cell_by (is_stored words w) t)
 cell_is words w t q f = ap (cell_with (is_stored words w)) q ∙ ap (λ b. if b then Some (cell_by (is_stored words w) t) else None) f
 
--- the access of a word that has a cell, and its base
-cell_touch : (words : List BodyWord) (w : BodyWord) (c : Cell) → cell_of words w ≡ Some c → (t : Touch) × (w.touch ≡ Some t) × (t.address.base ≡ c.base)
+-- the access of a word that has a cell, its base and its offset
+cell_touch : (words : List BodyWord) (w : BodyWord) (c : Cell) → cell_of words w ≡ Some c
+    → (t : Touch) × (w.touch ≡ Some t) × (t.address.base ≡ c.base) × (t.address.offset ≡ c.offset)
 cell_touch words w c e = go w.touch refl e
   where
-    go : (o : Option Touch) → w.touch ≡ o → cell_with (is_stored words w) o ≡ Some c → (t : Touch) × (w.touch ≡ Some t) × (t.address.base ≡ c.base)
+    go : (o : Option Touch) → w.touch ≡ o → cell_with (is_stored words w) o ≡ Some c
+        → (t : Touch) × (w.touch ≡ Some t) × (t.address.base ≡ c.base) × (t.address.offset ≡ c.offset)
     go None q h = absurd (cc)
-    go (Some t) q h = (t, q, by t.of_cell h)
+    go (Some t) q h = let x = by t.of_cell h in (t, q, x.0, x.1)
       where
-        by : (b : Bool) → (if b then Some (cell_by (is_stored words w) t) else None) ≡ Some c → t.address.base ≡ c.base
-        by true g = let x : cell_by (is_stored words w) t ≡ c = cc in ap (λ (y : Cell). y.base) x
+        by : (b : Bool) → (if b then Some (cell_by (is_stored words w) t) else None) ≡ Some c → (t.address.base ≡ c.base) × (t.address.offset ≡ c.offset)
+        by true g = let x : cell_by (is_stored words w) t ≡ c = cc in (ap (λ (y : Cell). y.base) x, ap (λ (y : Cell). y.offset) x)
         by false g = absurd (cc)
 
 cell_below : (cs : List Cell) (k : ℕ) (c : Cell) → cell_at cs k ≡ Some c → k < length cs
@@ -279,17 +285,25 @@ module _ (G : Graph) (ls : List Level) (c : Cells) (nest : AreNest G ls) (cells 
         let e = ap length (has_cells.list sound) in
         omega arith
 
-    -- the base of a cell that is listed
-    base_kept : (cell : Cell) → Contains c.list.items cell → (q : ℕ) → cell.base ≡ Some q → (1 ≤ q) × (q < first_cell) × IsUnwritten (code_of G (cell_map c)) nest.root q
-    base_kept cell k q e =
+    -- the address of a cell that is listed
+    address_known : (cell : Cell) → Contains c.list.items cell → (o : Option Fact) × (a : KnownAddress) × Known G (cell_map c) nest.root o a × (a.base ≡ cell.base) × (a.offset ≡ cell.offset)
+    address_known cell k =
         let s = kept_source (cell_of words) (first_uses words) cell (to_member (filter_map (cell_of words) (first_uses words)) cell (subst (λ cs. Contains cs cell) (has_cells.list sound) k)) in
         let w = s.element in
         let a = word_among D V body body w (from_member words w (kept_member (is_first_use words) words w s.member)) in
         let t = cell_touch words w cell s.is in
         let own : touch_of (is_kept D body) (V w.at) (D.instr w.at) ≡ Some t.0 = sym (ap (λ (x : BodyWord). x.touch) a.0) ∙ t.1 in
         let x = touched (is_kept D body) (V w.at) (D.instr w.at) t.0 own in
-        let known = known_is G (cell_map c) nest.root (fact_sum (fact_read (V w.at) (x.moves).base) (Some (Number (x.moves).offset))) (t.0).address x.address in
-        known.kept q (t.2 ∙ e)
+        let o = fact_sum (fact_read (V w.at) (x.moves).base) (Some (Number (x.moves).offset)) in
+        (o, (t.0).address, known_is G (cell_map c) nest.root o (t.0).address x.address, t.2, t.3)
+
+    base_kept : (cell : Cell) → Contains c.list.items cell → (q : ℕ) → cell.base ≡ Some q → (1 ≤ q) × (q < first_cell) × IsUnwritten (code_of G (cell_map c)) nest.root q
+    base_kept cell k q e = let a = address_known cell k in (a.2).kept q (a.3 ∙ e)
+
+    has_offset : (cell : Cell) → Contains c.list.items cell → HasOffset cell.base cell.offset
+    has_offset cell k =
+        let a = address_known cell k in
+        subst (λ z. HasOffset cell.base z) a.4 (subst (λ b. HasOffset b (a.1).offset) a.3 (a.2).offset)
 
     pub is_numbered : AreNumbered c
     is_numbered = record { ordered = ordered; numbers = numbers; few = few }
@@ -334,21 +348,32 @@ found_law G ls c N V nest cells sound is facts =
 pub numbered_law : NumberedLaw
 numbered_law G ls c nest cells sound = let f = facts_exist (nest_of G nest.root nest.inner) (code_of G no_cells) nest.root nest.nest (inl refl) in is_numbered G ls c nest cells sound f.0 f.1
 
+-- where the cells decide against the loop, none is listed
+none_listed : (words : List BodyWord) (c : Cells) (v : Verdict) → HasCells words c → c.fault ≡ Some v → (cell : Cell) → ¬ Contains c.list.items cell
+none_listed words c v has decided cell among =
+    let none = has.none (λ n. let x : Some v ≡ None = sym decided ∙ n in absurd (cc)) in
+    let k = subst (λ cs. Contains cs cell) none.0 among in
+    absurd (let l = k.1 in omega arith)
+
 pub bases_law : BasesLaw
 bases_law G ls c N nest cells is cell among q e = go c.fault refl
   where
     f : (V : ℕ → ℕ → Option Fact) × AreFacts (nest_of G nest.root nest.inner) (code_of G no_cells) nest.root V
     f = facts_exist (nest_of G nest.root nest.inner) (code_of G no_cells) nest.root nest.nest (inl refl)
 
-    has : HasCells (words_of (code_of G no_cells) nest.root.body f.0) c
-    has = cells (nest_of G nest.root nest.inner) f.0 (this_nest G ls nest) f.1
-
     own : (1 ≤ q) × (q < first_cell) × IsUnwritten (code_of G (cell_map c)) nest.root q → (1 ≤ q) × (q < first_cell) × IsUnwritten (code_of G (cell_map c)) N.root q
     own h = subst (λ (M : Nest). (1 ≤ q) × (q < first_cell) × IsUnwritten (code_of G (cell_map c)) M.root q) (sym (nest_is G ls nest N is)) h
 
     go : (o : Option Verdict) → c.fault ≡ o → (1 ≤ q) × (q < first_cell) × IsUnwritten (code_of G (cell_map c)) N.root q
     go None sound = own (base_kept G ls c nest cells sound f.0 f.1 cell among q e)
-    go (Some v) sound =
-        let none = has.none (λ n. let x : Some v ≡ None = sym sound ∙ n in absurd (cc)) in
-        let k = subst (λ cs. Contains cs cell) none.0 among in
-        absurd (let l = k.1 in omega arith)
+    go (Some v) decided = absurd (none_listed _ c v (cells (nest_of G nest.root nest.inner) f.0 (this_nest G ls nest) f.1) decided cell among)
+
+pub offsets_law : OffsetsLaw
+offsets_law G ls c nest cells cell among = go c.fault refl
+  where
+    f : (V : ℕ → ℕ → Option Fact) × AreFacts (nest_of G nest.root nest.inner) (code_of G no_cells) nest.root V
+    f = facts_exist (nest_of G nest.root nest.inner) (code_of G no_cells) nest.root nest.nest (inl refl)
+
+    go : (o : Option Verdict) → c.fault ≡ o → HasOffset cell.base cell.offset
+    go None sound = has_offset G ls c nest cells sound f.0 f.1 cell among
+    go (Some v) decided = absurd (none_listed _ c v (cells (nest_of G nest.root nest.inner) f.0 (this_nest G ls nest) f.1) decided cell among)

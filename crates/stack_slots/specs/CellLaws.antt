@@ -1,6 +1,7 @@
 -- What the cells of a loop promise to the passes that know them.
-use Rattle.std.specs.Prelude.{ℕ, ◌≡◌, ◌<◌, ◌≤◌, ◌⊎◌, List, Option, Some, None}
+use Rattle.std.specs.Prelude.{ℕ, ◌≡◌, ◌<◌, ◌≤◌, ◌⊎◌, List, Option, Some, None, ℤ, pos, ◌≤ℤ◌, ◌<ℤ◌}
 use Rattle.std.specs.List.{Contains}
+use Rattle.rv64_decode.specs.Form.{IsSigned}
 use Rattle.loop_data.specs.declared.cells.Cells.{Cells}
 use Rattle.loop_data.specs.declared.graph.Graph.{Graph}
 use Rattle.loop_data.specs.declared.shape.Level.{Level}
@@ -35,6 +36,17 @@ abbrev pub BasesLaw : Type 0
 BasesLaw = (G : Graph) (levels : List Level) (c : Cells) (N : Nest) → AreNest G levels → AreCellsOf G levels c
     → IsNestOf G levels N → (cell : Cell) → Contains c.list.items cell → (q : ℕ) → cell.base ≡ Some q
     → (1 ≤ q) × (q < first_cell) × IsUnwritten (code_of G (cell_map c)) N.root q
+
+-- so many bytes from a base, or an address that is known: the one has room in an instruction, and the other, with the
+-- bytes of a cell, below 2 ^ 31 - 2 ^ 11
+abbrev pub HasOffset : Option ℕ → ℤ → Type 0
+HasOffset None offset = (pos 0 ≤ℤ offset) × (offset <ℤ pos 0x7FFF_F800)
+HasOffset (Some base) offset = IsSigned 12 offset
+
+-- each cell stands so
+abbrev pub OffsetsLaw : Type 0
+OffsetsLaw = (G : Graph) (levels : List Level) (c : Cells) → AreNest G levels → AreCellsOf G levels c
+    → (cell : Cell) → Contains c.list.items cell → HasOffset cell.base cell.offset
 
 -- what the cells decide is a limit or a mixed pair
 abbrev pub FaultLaw : Type 0
