@@ -3,7 +3,7 @@ use Rattle.std.proofs.Common.{◌≡◌, ◌≢◌, ℕ, zero, suc, ◌+◌, ◌
 use Rattle.std.specs.List.{Contains}
 use Rattle.std.proofs.lemmas.Bool.{cases_eq}
 use Rattle.std.proofs.lemmas.Bool.Decides.{nat_tests}
-use Rattle.std.proofs.lemmas.List.{get_or-set_same, get_or-set_other, take_more, get_or_default}
+use Rattle.std.proofs.lemmas.List.{get_or-set_same, get_or-set_other, length-set, take_more, get_or_default}
 use Rattle.loop_data.specs.declared.shape.Level.{Level}
 use Rattle.loop_data.specs.declared.values.Value.{Value}
 use Rattle.loop_data.specs.declared.values.Value.TheVariants.{Nothing}
@@ -15,7 +15,9 @@ use Rattle.loop_data.specs.declared.cells.Cells.{Cells}
 use Rattle.loop_data.specs.declared.verdict.Cell.{Cell}
 use Rattle.loop_data.proofs.Tests.{is_ne}
 use Rattle.loop_data.specs.Lookups.{fact_of, fact_in, cell_map}
-use Rattle.loop_data.specs.ValueStates.{lost_by}
+use Rattle.loop_data.specs.declared.flow.Flow.{Flow}
+use Rattle.loop_data.specs.declared.values.Values.{Values}
+use Rattle.loop_data.specs.ValueStates.{past, lost_by, IsInnerFact}
 
 -- one more value is set, and those below it stay
 pub filled : (P : ℕ → Option Fact → Type 0) (S : List Value) (r : ℕ) (x : Value) → r < length S → r < 48 → ((q : ℕ) → q < r → P q (fact_in S q)) → P r (fact_of x) → (q : ℕ) → q < r + 1 → P q (fact_in (set S r x) q)
@@ -27,6 +29,39 @@ filled P S r x l low before here q m = by (cases_eq q r)
         let v : fact_in (set S r x) r ≡ fact_of x = ap (λ b. if b then fact_of (get_or (set S r x) r Nothing) else None) t ∙ ap fact_of (get_or-set_same S r x Nothing l) in
         subst (λ j. P j (fact_in (set S r x) j)) (sym e) (subst (P r) (sym v) here)
     by (inr ne) = subst (λ v. P q (if nat_lt q 48 then fact_of v else None)) (sym (get_or-set_other S r q x Nothing ne)) (before q (omega arith))
+
+-- a value that is set is what is known of its location, and all others stay
+pub fact_set_same : (S : List Value) (r : ℕ) (x : Value) → r < length S → r < 48 → fact_in (set S r x) r ≡ fact_of x
+fact_set_same S r x l low =
+    let t : nat_lt r 48 ≡ true = grind (arith, nat_tests) in
+    ap (λ b. if b then fact_of (get_or (set S r x) r Nothing) else None) t ∙ ap fact_of (get_or-set_same S r x Nothing l)
+
+pub fact_set_other : (S : List Value) (r q : ℕ) (x : Value) → q ≢ r → fact_in (set S r x) q ≡ fact_in S q
+fact_set_other S r q x ne = ap (λ v. if nat_lt q 48 then fact_of v else None) (get_or-set_other S r q x Nothing ne)
+
+-- what is known of a location whose value is read
+pub fact_read_at : (S : List Value) (r : ℕ) (d : Value) → r < length S → r < 48 → fact_of (get_or S r d) ≡ fact_in S r
+fact_read_at S r d l low =
+    let t : nat_lt r 48 ≡ true = grind (arith, nat_tests) in
+    ap fact_of (get_or_default S r d Nothing l) ∙ sym (ap (λ b. if b then fact_of (get_or S r Nothing) else None) t)
+
+-- the values below r are as wanted, and those from there on as at first
+pub record IsFilled (P : ℕ → Option Fact → Type 0) (first now : List Value) (r : ℕ) : Type 0 where
+  pub count : length now ≡ 48
+  pub above : (q : ℕ) → r ≤ q → fact_in now q ≡ fact_in first q
+  pub below : (q : ℕ) → q < r → P q (fact_in now q)
+
+pub filled_set : (P : ℕ → Option Fact → Type 0) (first now : List Value) (r : ℕ) (x : Value) → r < 48 → IsFilled P first now r → P r (fact_of x) → IsFilled P first (set now r x) (r + 1)
+filled_set P first now r x low f here =
+    let n = f.count in
+    record { count = length-set now r x ∙ n; above = λ q l. fact_set_other now r q x (λ e. omega arith) ∙ f.above q (omega arith); below = filled P now r x (omega arith) low f.below here }
+
+pub filled_kept : (P : ℕ → Option Fact → Type 0) (first now : List Value) (r : ℕ) → IsFilled P first now r → P r (fact_in first r) → IsFilled P first now (r + 1)
+filled_kept P first now r f here = record { count = f.count; above = λ q l. f.above q (omega arith); below = λ q l. by q l (cases_eq q r) }
+  where
+    by : (q : ℕ) → q < r + 1 → (q ≡ r) ⊎ (q ≢ r) → P q (fact_in now q)
+    by q l (inl e) = subst (λ j. P j (fact_in now j)) (sym e) (subst (P r) (sym (f.above r (omega arith))) here)
+    by q l (inr ne) = f.below q (omega arith)
 
 or_assoc : (a b c : Bool) → ((a || b) || c) ≡ (a || (b || c))
 or_assoc true b c = refl
@@ -54,6 +89,17 @@ pub lost_more : (B : LoopCode) (ms : List Level) (i v r : ℕ) (m : Level) (old 
 lost_more B ms i v r m old new l is e f =
     f ∙ ap (λ b. b || ((m.header == v) && any_writes B m.body r)) e
     ∙ sym (ap (λ xs. lost_by B xs v r) (take_more ms i m l) ∙ lost_push B (take i ms) (get_or ms i m) v r ∙ ap (λ (z : Level). lost_by B (take i ms) v r || ((z.header == v) && any_writes B z.body r)) (sym is))
+
+-- what is lost at one more level is lost
+pub lost_either : (old here : Bool) (fact : Option Fact) → (if here then None else (if old then None else fact)) ≡ (if old || here then None else fact)
+lost_either true true fact = refl
+lost_either true false fact = refl
+lost_either false true fact = refl
+lost_either false false fact = refl
+
+pub inner_is : (lost : Bool) (flow : Flow) (points : List Values) (sources : List ℕ) (r : ℕ) (met new : Option Fact) → new ≡ (if lost then None else met) → ((x : Fact) → (met ≡ Some x) ↔ ((k : ℕ) → Contains sources k → past flow points k r ≡ Some x)) → IsInnerFact lost flow points sources r new
+inner_is true flow points sources r met new e h = e
+inner_is false flow points sources r met new e h = λ x. (λ q. (h x).0 (sym e ∙ q), λ f. e ∙ (h x).1 f)
 
 -- what all of some places agree on, after one more
 pub agreed_more : (P : ℕ → Fact → Type 0) (ks : List ℕ) (i : ℕ) (old new next : Option Fact) (first : Fact → Type 0) → i < length ks

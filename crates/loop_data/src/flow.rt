@@ -40,6 +40,18 @@ pub fn place_of(body: &[u64], x: u64) -> Option<usize>
     }
 }
 
+/// The place of an address among addresses in order, looked for at this place first.
+fn place_near(body: &[u64], near: usize, x: u64) -> Option<usize>
+    requires { IsStrictlyIncreasing body.now }
+    ensures found { IfSome result (λ i. (i < length body.now) × (slice_index body.now i ≡ x)) }
+    ensures none { IfNone result (¬ Contains body.now x) }
+{
+    if near < body.len() && body[near] == x {
+        return Some(near);
+    }
+    place_of(body, x)
+}
+
 /// Whether an address is among addresses in order.
 pub fn is_in(body: &[u64], x: u64) -> bool
     requires { IsStrictlyIncreasing body.now }
@@ -63,25 +75,53 @@ fn word_place(words: &[Word], x: u64) -> Option<usize>
     }
 }
 
+/// The place of the reached word at an address, looked for at this place first; that becomes the place behind it.
+fn next_place(words: &[Word], next: &mut usize, x: u64) -> Option<usize>
+    requires { IsStrictlyIncreasing (addresses_of words.now) }
+    ensures found { IfSome result (λ i. (i < length words.now) × (slice_index (addresses_of words.now) i ≡ x)) }
+    ensures none { IfNone result (¬ Contains (addresses_of words.now) x) }
+{
+    let near = *next;
+    if near < words.len() && words[near].at == x {
+        *next = near + 1;
+        return Some(near);
+    }
+    let found = word_place(words, x);
+    if let Some(i) = found {
+        *next = i + 1;
+    }
+    found
+}
+
 /// What the reached word at an address stands for.
 pub fn instr_at(graph: &Graph, x: u64) -> Option<Instr>
     requires { IsInOrder graph.now }
     ensures { result ≡ instr_among graph.now.words x }
 {
+    instr_next(graph, &mut 0, x)
+}
+
+/// What the reached word at an address stands for, which is looked for at this place first; that becomes the place
+/// behind it, so that words in a row are found without a search.
+pub fn instr_next(graph: &Graph, next: &mut usize, x: u64) -> Option<Instr>
+    requires { IsInOrder graph.now }
+    ensures { result ≡ instr_among graph.now.words x }
+{
     let words = graph.words.as_slice();
-    match word_place(words, x) {
+    match next_place(words, next, x) {
         Some(i) => decode(words[i].bits),
         None => None,
     }
 }
 
-/// Where the step edges of the reached word at an address lead.
-pub fn steps_at(graph: &Graph, x: u64) -> &[u64]
+/// Where the step edges of the reached word at an address lead, which is looked for at this place first; that
+/// becomes the place behind it.
+fn steps_next<'a>(graph: &'a Graph, next: &mut usize, x: u64) -> &'a [u64]
     requires { IsInOrder graph.now }
     ensures { (y : ℕ) → Contains result.now y ↔ Leads graph.now x y }
 {
     let words = graph.words.as_slice();
-    match word_place(words, x) {
+    match next_place(words, next, x) {
         Some(i) => words[i].steps.as_slice(),
         None => &[],
     }
@@ -92,7 +132,12 @@ fn instrs_of(alloc: Global, graph: &Graph, body: &[u64]) -> Result<Vec<Option<In
     requires { IsInOrder graph.now }
     ensures { IfOk result (λ v. v.items ≡ map (instr_among graph.now.words) body.now) }
 {
-    body.iter().map(|x| instr_at(graph, *x)).collect(alloc)
+    let mut all = Vec::with_capacity(alloc, body.len())?;
+    let mut next = 0;
+    for x in body {
+        all.push(instr_next(graph, &mut next, *x))?;
+    }
+    Ok(all)
 }
 
 /// The numbers of the cells that the words of a body access.
@@ -146,7 +191,7 @@ fn add_step(
     if closes(levels, body[from], y) {
         return Ok(());
     }
-    match place_of(body, y) {
+    match place_near(body, from + 1, y) {
         Some(to) => add(sources, to, from),
         None => Ok(()),
     }
@@ -178,6 +223,7 @@ fn add_steps(
 fn add_word(
     sources: &mut [Vec<usize>],
     graph: &Graph,
+    next: &mut usize,
     levels: &[Level],
     body: &[u64],
     from: usize,
@@ -189,7 +235,13 @@ fn add_word(
     requires below { HasSources graph.now levels.now body.now from (rows sources.old) }
     ensures { OnOk result (HasSources graph.now levels.now body.now (from + 1) (rows sources.new)) }
 {
-    add_steps(sources, levels, body, from, steps_at(graph, body[from]))
+    add_steps(
+        sources,
+        levels,
+        body,
+        from,
+        steps_next(graph, next, body[from]),
+    )
 }
 
 /// Rows without numbers.
@@ -216,8 +268,9 @@ fn sources_of(
     ensures { IfOk result (λ v. HasSources graph.now levels.now body.now (length body.now) (rows v.items)) }
 {
     let mut sources = empty_rows(alloc, body.len())?;
+    let mut next = 0;
     for from in 0..body.len() {
-        add_word(&mut sources, graph, levels, body, from)?;
+        add_word(&mut sources, graph, &mut next, levels, body, from)?;
     }
     Ok(sources)
 }

@@ -14,10 +14,10 @@ ghost use Rattle.loop_data.specs.Results.{AreFactsOf};
 ghost use Rattle.loop_data.specs.ValueStates.{past, lost_by, values_at, IsInnerFact, IsState, IsSetAt};
 
 use crate::cells::{Cells, use_at};
-use crate::flow::{Flow, instr_at, loop_flow, row};
+use crate::flow::{Flow, instr_next, loop_flow, row};
 use crate::graph::Graph;
 use crate::shape::{Level, LoopShape};
-use crate::value_rows::{is_store, met, target_of, value_after};
+use crate::value_rows::{is_store, met, target_of, values_after};
 use crate::values::{Value, Values};
 use linear_forms::Loc;
 use rv64_decode::Instr;
@@ -116,107 +116,135 @@ pub fn mark_body(flags: &mut [bool; 48], graph: &Graph, cells: &Cells, body: &[u
         ≡ (slice_index_or flags.old r false || any_writes (code_of graph.now (cell_map cells.now)) body.now r) }
 {
     let uses = cells.uses.as_slice();
+    let mut next = 0;
     for u in body {
-        mark_word(flags, &instr_at(graph, *u), use_at(uses, *u));
+        mark_word(flags, &instr_next(graph, &mut next, *u), use_at(uses, *u));
     }
 }
 
-/// Sets the flags of the locations that a loop writes, if this is its header.
-fn mark_loop(flags: &mut [bool; 48], graph: &Graph, cells: &Cells, level: &Level, v: u64)
-    requires graph { IsInOrder graph.now }
-    requires cells { AreNumbered cells.now }
-    ensures { (r : ℕ) → r < 48 → slice_index_or flags.new r false ≡ (slice_index_or flags.old r false
-        || ((level.now.header == v) && any_writes (code_of graph.now (cell_map cells.now)) level.now.body r)) }
+/// The same value, unless it is lost.
+fn kept(value: Value, lost: bool) -> Value
+    ensures { fact_of result ≡ (if lost then None else fact_of value) }
 {
-    if level.header == v {
-        mark_body(flags, graph, cells, level.body.as_slice());
+    if lost { Value::Nothing } else { value }
+}
+
+/// Forgets what is known of the locations whose flags are set.
+fn forget(of: &mut [Value; 48], flags: &[bool; 48])
+    ensures { (r : ℕ) → r < 48
+        → fact_in of.new r ≡ (if slice_index_or flags.now r false then None else fact_in of.old r) }
+{
+    for r in 0..48usize {
+        of[r] = kept(of[r], flags[r]);
     }
 }
 
-/// Which locations the loops with this header write.
-fn lost_flags(graph: &Graph, cells: &Cells, levels: &[Level], v: u64) -> [bool; 48]
+/// Forgets what is known of the locations that the words of a body write.
+fn forget_body(of: &mut [Value; 48], graph: &Graph, cells: &Cells, body: &[u64])
     requires graph { IsInOrder graph.now }
     requires cells { AreNumbered cells.now }
-    ensures { (r : ℕ) → r < 48
-        → slice_index_or result r false ≡ lost_by (code_of graph.now (cell_map cells.now)) levels.now v r }
+    ensures { (r : ℕ) → r < 48 → fact_in of.new r
+        ≡ (if any_writes (code_of graph.now (cell_map cells.now)) body.now r then None else fact_in of.old r) }
 {
     let mut flags = [false; 48];
-    for level in levels {
-        mark_loop(&mut flags, graph, cells, level, v);
-    }
-    flags
+    mark_body(&mut flags, graph, cells, body);
+    forget(of, &flags);
 }
 
-/// What is known of a location after the word at a place.
-fn past_value(flow: &Flow, points: &[Values], k: usize, r: usize) -> Value
+/// Forgets what is known of the locations that a loop writes, if this is its header.
+fn forget_loop(of: &mut [Value; 48], graph: &Graph, cells: &Cells, level: &Level, v: u64)
+    requires graph { IsInOrder graph.now }
+    requires cells { AreNumbered cells.now }
+    ensures { (r : ℕ) → r < 48 → fact_in of.new r
+        ≡ (if (level.now.header == v) && any_writes (code_of graph.now (cell_map cells.now)) level.now.body r
+        then None else fact_in of.old r) }
+{
+    if level.header == v {
+        forget_body(of, graph, cells, level.body.as_slice());
+    }
+}
+
+/// Forgets what is known of the locations that the loops with this header write.
+fn forget_loops(of: &mut [Value; 48], graph: &Graph, cells: &Cells, levels: &[Level], v: u64)
+    requires graph { IsInOrder graph.now }
+    requires cells { AreNumbered cells.now }
+    ensures { (r : ℕ) → r < 48 → fact_in of.new r
+        ≡ (if lost_by (code_of graph.now (cell_map cells.now)) levels.now v r then None else fact_in of.old r) }
+{
+    for level in levels {
+        forget_loop(of, graph, cells, level, v);
+    }
+}
+
+/// What is known of each location after the word at a place.
+fn past_values(flow: &Flow, points: &[Values], k: usize) -> [Value; 48]
     requires within { k < length points.now }
     requires count { length flow.now.instrs.items ≡ length points.now }
     requires uses { length flow.now.uses.items ≡ length points.now }
-    requires location { r < 48 }
-    ensures { fact_of result ≡ past flow.now points.now k r }
+    ensures { (r : ℕ) → r < 48 → fact_in result r ≡ past flow.now points.now k r }
 {
-    value_after(
-        points[k].at,
-        &flow.instrs[k],
-        flow.uses[k],
-        &points[k].of,
-        r,
-    )
+    values_after(points[k].at, &flow.instrs[k], flow.uses[k], &points[k].of)
 }
 
-/// What is known of a location where the edges from these places meet.
-fn met_value(flow: &Flow, points: &[Values], sources: &[usize], r: usize) -> Value
+/// Leaves of what is known of each location what others tell of it too.
+fn meet(of: &mut [Value; 48], others: &[Value; 48])
+    ensures { (r : ℕ) → r < 48 → (x : Fact) → (fact_in of.new r ≡ Some x)
+        ↔ ((fact_in of.old r ≡ Some x) × (fact_in others.now r ≡ Some x)) }
+{
+    for r in 0..48usize {
+        of[r] = met(of[r], others[r]);
+    }
+}
+
+/// Leaves of what is known of each location what is known of it after the word at a place too.
+fn meet_past(of: &mut [Value; 48], flow: &Flow, points: &[Values], k: usize)
+    requires within { k < length points.now }
+    requires count { length flow.now.instrs.items ≡ length points.now }
+    requires uses { length flow.now.uses.items ≡ length points.now }
+    ensures { (r : ℕ) → r < 48 → (x : Fact) → (fact_in of.new r ≡ Some x)
+        ↔ ((fact_in of.old r ≡ Some x) × (past flow.now points.now k r ≡ Some x)) }
+{
+    let others = past_values(flow, points, k);
+    meet(of, &others);
+}
+
+/// What is known where the edges from these places meet.
+fn met_values(flow: &Flow, points: &[Values], sources: &[usize]) -> [Value; 48]
     requires some { 1 ≤ length sources.now }
     requires within { All (λ k. k < length points.now) sources.now }
     requires count { length flow.now.instrs.items ≡ length points.now }
     requires uses { length flow.now.uses.items ≡ length points.now }
-    requires location { r < 48 }
-    ensures { (x : Fact) → (fact_of result ≡ Some x)
+    ensures { (r : ℕ) → r < 48 → (x : Fact) → (fact_in result r ≡ Some x)
         ↔ ((k : ℕ) → Contains sources.now k → past flow.now points.now k r ≡ Some x) }
 {
-    let mut value = past_value(flow, points, sources[0], r);
-    for k in sources {
-        value = met(value, past_value(flow, points, *k, r));
+    let mut of = past_values(flow, points, sources[0]);
+    for i in 1..sources.len() {
+        meet_past(&mut of, flow, points, sources[i]);
     }
-    value
+    of
 }
 
-/// What is known of a location at a word that is no header of the loop itself.
-fn inner_value(
-    lost: &[bool; 48],
+/// What is known at a word that is no header of the loop itself, to which edges lead from these places.
+fn inner_values(
+    graph: &Graph,
+    cells: &Cells,
+    levels: &[Level],
+    v: u64,
     flow: &Flow,
     points: &[Values],
     sources: &[usize],
-    r: usize,
-) -> Value
+) -> [Value; 48]
+    requires graph { IsInOrder graph.now }
+    requires cells { AreNumbered cells.now }
     requires some { 1 ≤ length sources.now }
     requires within { All (λ k. k < length points.now) sources.now }
     requires count { length flow.now.instrs.items ≡ length points.now }
     requires uses { length flow.now.uses.items ≡ length points.now }
-    requires location { r < 48 }
-    ensures { IsInnerFact (slice_index_or lost.now r false)
-        flow.now points.now sources.now r (fact_of result) }
-{
-    if lost[r] {
-        Value::Nothing
-    } else {
-        met_value(flow, points, sources, r)
-    }
-}
-
-/// What is known at a word that is no header of the loop itself.
-fn inner_values(lost: &[bool; 48], flow: &Flow, points: &[Values], sources: &[usize]) -> [Value; 48]
-    requires some { 1 ≤ length sources.now }
-    requires within { All (λ k. k < length points.now) sources.now }
-    requires count { length flow.now.instrs.items ≡ length points.now }
-    requires uses { length flow.now.uses.items ≡ length points.now }
-    ensures { (r : ℕ) → r < 48 → IsInnerFact (slice_index_or lost.now r false)
+    ensures { (r : ℕ) → r < 48 → IsInnerFact (lost_by (code_of graph.now (cell_map cells.now)) levels.now v r)
         flow.now points.now sources.now r (fact_in result r) }
 {
-    let mut of = [Value::Nothing; 48];
-    for r in 0..48usize {
-        of[r] = inner_value(lost, flow, points, sources, r);
-    }
+    let mut of = met_values(flow, points, sources);
+    forget_loops(&mut of, graph, cells, levels, v);
     of
 }
 
@@ -245,8 +273,8 @@ fn place_values(
     if v == header {
         return header_values(cells);
     }
-    let lost = lost_flags(graph, cells, levels, v);
-    inner_values(&lost, flow, points, row(flow.sources.as_slice(), p))
+    let sources = row(flow.sources.as_slice(), p);
+    inner_values(graph, cells, levels, v, flow, points, sources)
 }
 
 /// Sets what is known at the word at a place.
@@ -302,6 +330,29 @@ fn set_places(
 }
 
 /// What is known of each location before each word of the loop at this place among the levels of a nest, in
+/// address order, where its words are given by their places.
+pub fn flow_values(
+    alloc: Global,
+    graph: &Graph,
+    cells: &Cells,
+    levels: &[Level],
+    level: usize,
+    flow: &Flow,
+) -> Result<Vec<Values>, AllocError>
+    requires graph { IsInOrder graph.now }
+    requires cells { AreNumbered cells.now }
+    requires nest { AreNest graph.now levels.now }
+    requires within { level < length levels.now }
+    requires flow { (l : Level) → slice_index_or levels.now level l ≡ l
+        → IsFlow graph.now (cell_map cells.now) levels.now l.body flow.now }
+    ensures { IfOk result (λ v. AreFactsOf graph.now levels.now (cell_map cells.now) level v.items) }
+{
+    let mut points = no_values(alloc, levels[level].body.as_slice())?;
+    set_places(graph, cells, levels, level, flow, &mut points);
+    Ok(points)
+}
+
+/// What is known of each location before each word of the loop at this place among the levels of a nest, in
 /// address order: over the values that the locations have at that loop's header. Without cells it is what is known
 /// of registers alone.
 pub fn value_pass(
@@ -319,7 +370,5 @@ pub fn value_pass(
 {
     let levels = shape.levels.as_slice();
     let flow = loop_flow(alloc, graph, cells, levels, level as usize)?;
-    let mut points = no_values(alloc, levels[level as usize].body.as_slice())?;
-    set_places(graph, cells, levels, level as usize, &flow, &mut points);
-    Ok(points)
+    flow_values(alloc, graph, cells, levels, level as usize, &flow)
 }

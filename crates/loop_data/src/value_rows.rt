@@ -1,8 +1,8 @@
-ghost use Rattle.std.specs.Prelude.{ℕ, ◌≡◌, ◌==◌, ◌&&◌, ◌+◌, ◌<◌, ◌≤◌, ◌↔◌, ◌^◌, ◌+ℤ◌, ◌-ℤ◌, ◌*ℤ◌, ℤ, pos, Some, None, true, false, IsTrue};
+ghost use Rattle.std.specs.Prelude.{ℕ, ◌≡◌, ◌==◌, ◌&&◌, ◌+◌, ◌<◌, ◌≤◌, ◌↔◌, ◌^◌, ◌+ℤ◌, ◌-ℤ◌, ◌*ℤ◌, ℤ, pos, Some, None, true, false, nat_lt, if◌then◌else◌, IsTrue};
 ghost use Rattle.rv64_decode.specs.Row.{signed32, signed64};
 ghost use Rattle.linear_forms.specs.Forms.{constant_fits};
 ghost use Rattle.loop_data.specs.Facts.{Fact, Number, ranged, short_of, fact_read, fact_sum, fact_difference, fact_short, fact_shifted, alu_fact, imm_fact, upper_fact, cell_fact, register_fact, store_fact, stored_fact, fact_past};
-ghost use Rattle.loop_data.specs.Locations.{first_cell, target, writes_cell, instr_writes};
+ghost use Rattle.loop_data.specs.Locations.{first_cell, target, writes_register, writes_cell, instr_writes};
 ghost use Rattle.loop_data.specs.Lookups.{is_named, offset_from, fact_of, fact_in};
 
 use crate::values::Value;
@@ -378,6 +378,69 @@ pub fn value_after(
         Some(instr) => stored_value(instr, values),
         None => Value::Nothing,
     }
+}
+
+/// Sets what an instruction at an address writes to its register, if it writes one, out of the values before it.
+fn set_register(
+    after: &mut [Value; 48],
+    at: u64,
+    instr: &Instr,
+    cell: Option<u8>,
+    values: &[Value; 48],
+)
+    ensures { (r : ℕ) → r < 48 → fact_in after.new r
+        ≡ (if (if nat_lt r 32 then writes_register instr.now r else false)
+        then register_fact at instr.now cell (fact_in values.now) else fact_in after.old r) }
+{
+    let r = target_of(instr) as usize;
+    if r != 0 && r < 32 {
+        after[r] = register_value(at, instr, cell, values);
+    }
+}
+
+/// Sets what an instruction writes to the cell that it accesses, if it writes it, out of the values before it.
+fn set_cell(after: &mut [Value; 48], instr: &Instr, cell: u8, values: &[Value; 48])
+    ensures { (r : ℕ) → r < 48 → fact_in after.new r
+        ≡ (if (if nat_lt r 32 then false else writes_cell instr.now (Some cell) r)
+        then stored_fact instr.now (fact_in values.now) else fact_in after.old r) }
+{
+    let r = 32 + cell as usize;
+    if r < 48 && is_store(instr) {
+        after[r] = stored_value(instr, values);
+    }
+}
+
+/// Sets what an instruction at an address writes, which accesses this cell, if any, out of the values before it.
+fn set_written(
+    after: &mut [Value; 48],
+    at: u64,
+    instr: &Instr,
+    cell: Option<u8>,
+    values: &[Value; 48],
+)
+    ensures { (r : ℕ) → r < 48 → fact_in after.old r ≡ fact_in values.now r
+        → fact_in after.new r ≡ fact_past at (Some instr.now) cell (fact_in values.now) r }
+{
+    set_register(after, at, instr, cell, values);
+    if let Some(cell) = cell {
+        set_cell(after, instr, cell, values);
+    }
+}
+
+/// What is known of each location after a word that accesses this cell, if any, out of what is known before it.
+pub fn values_after(
+    at: u64,
+    instr: &Option<Instr>,
+    cell: Option<u8>,
+    values: &[Value; 48],
+) -> [Value; 48]
+    ensures { (r : ℕ) → r < 48 → fact_in result r ≡ fact_past at instr.now cell (fact_in values.now) r }
+{
+    let mut after = *values;
+    if let Some(instr) = instr {
+        set_written(&mut after, at, instr, cell, values);
+    }
+    after
 }
 
 /// Whether both stand for the same fact, and for one at all.

@@ -12,4 +12,4 @@ loop-u-preserved c r l =
     let u = get_or c.args.body.now i 0 in
     let old = get_or c.loop-u.flags r false in
     writes_more (code_of c.args.graph.now (cell_map c.args.cells.now)) c.args.body.now i r (get_or c.args.flags.now r false) old (get_or c.mark_word.new.flags r false) c.loop-u-test.true (c.loop-u.invariant r l)
-    (c.mark_word.ensures r l ∙ ap (λ (j : Option Instr). old || instr_writes j c.use_at.result r) c.instr_at.ensures ∙ ap (λ (k : Option ℕ). old || instr_writes (instr_among c.args.graph.now.words u) k r) (c.use_at.ensures ∙ ap (λ (us : List (ℕ × ℕ)). use_of us u) c.as_slice-uses.ensures.value))
+    (c.mark_word.ensures r l ∙ ap (λ (j : Option Instr). old || instr_writes j c.use_at.result r) c.instr_next.ensures ∙ ap (λ (k : Option ℕ). old || instr_writes (instr_among c.args.graph.now.words u) k r) (c.use_at.ensures ∙ ap (λ (us : List (ℕ × ℕ)). use_of us u) c.as_slice-uses.ensures.value))

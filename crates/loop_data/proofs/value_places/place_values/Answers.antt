@@ -8,6 +8,6 @@ use Rattle.loop_data.proofs.value_places.place_values.Goals as goal
 
 pub inner_values-requires-clause-within : goal.inner_values-requires-clause-within
 inner_values-requires-clause-within c k d l =
-    let xs = c.row.result.now in
-    let e = c.row.ensures ∙ ap (λ (vs : List (Vec ℕ Global)). row_at (rows vs) c.args.p) c.as_slice.ensures.value in
+    let xs = c.row-sources.result.now in
+    let e = c.row-sources.ensures ∙ ap (λ (vs : List (Vec ℕ Global)). row_at (rows vs) c.args.p) c.as_slice.ensures.value in
     c.requires.sources (get_or xs k d) (subst (λ (ys : List ℕ). Contains ys (get_or xs k d)) e (k, l, sym (get_or_default xs k d (get_or xs k d) l)))

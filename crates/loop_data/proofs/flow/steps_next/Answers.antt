@@ -3,7 +3,7 @@ use Rattle.std.specs.List.{Contains}
 use Rattle.loop_data.specs.declared.graph.Word.{Word}
 use Rattle.loop_data.specs.Paths.{addresses_of, Leads}
 use Rattle.loop_data.proofs.FlowWords.{leads_from}
-use Rattle.loop_data.proofs.flow.steps_at.Goals as goal
+use Rattle.loop_data.proofs.flow.steps_next.Goals as goal
 
 pub returns-in-Some : goal.returns-in-Some
 returns-in-Some c y =

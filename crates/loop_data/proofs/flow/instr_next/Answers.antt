@@ -3,7 +3,7 @@ use Rattle.rv64_decode.specs.Table.{decoded}
 use Rattle.loop_data.specs.declared.graph.Word.{Word}
 use Rattle.loop_data.specs.Paths.{addresses_of}
 use Rattle.loop_data.proofs.FlowWords.{instr_is, no_instr}
-use Rattle.loop_data.proofs.flow.instr_at.Goals as goal
+use Rattle.loop_data.proofs.flow.instr_next.Goals as goal
 
 pub returns-in-Some : goal.returns-in-Some
 returns-in-Some c =
