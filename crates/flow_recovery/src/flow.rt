@@ -1,6 +1,7 @@
-ghost use Rattle.std.specs.Prelude.{◌≡◌, ℕ};
+ghost use Rattle.std.specs.Prelude.{◌≡◌, ℕ, Option, None, false};
 ghost use Rattle.elf_image.specs.Layout.{IsLoadable};
 ghost use Rattle.rv64_decode.specs.Row.{plus_offset, next_pc};
+ghost use Rattle.rv64_decode.specs.declared.instr.Instr.{Instr as Shown};
 ghost use Rattle.loop_data.specs.Code.{word_at};
 ghost use Rattle.loop_data.specs.Targets.{before, instr_of, instr_at, asks_exit, targets_by, targets_outside, targets_at, pair_by, pair_at};
 ghost use Rattle.flow_recovery.specs.Flows.{targets_in};
@@ -109,6 +110,18 @@ fn flow_by(instr: &Instr, at: u64, ends: bool, pair: Option<u64>) -> Flow
     }
 }
 
+// Whether an instruction at an address is an ecall that ends the program.
+fn ends_at(elf: &Elf, instr: &Instr, at: u64) -> bool
+    requires { IsLoadable elf.now }
+    ensures { (pair : Option ℕ) → targets_by instr.now at result pair
+        ≡ targets_by instr.now at (asks_exit (instr_at elf.now (before at))) pair }
+{
+    match *instr {
+        Instr::Ecall => asks_exit(&instr_at(elf, before(at))),
+        _ => false,
+    }
+}
+
 // Where a word outside the table leads.
 fn flow_outside(word: u32) -> Flow
     ensures { (at : ℕ) → targets_in at result ≡ targets_outside word at }
@@ -130,7 +143,7 @@ pub(crate) fn flow_at(elf: &Elf, pair: Option<u64>, at: u64) -> Flow
         None => Flow::Stop,
         Some(word) => match instr_of(word) {
             None => flow_outside(word),
-            Some(instr) => flow_by(&instr, at, asks_exit(&instr_at(elf, before(at))), pair),
+            Some(instr) => flow_by(&instr, at, ends_at(elf, &instr, at), pair),
         },
     }
 }
@@ -157,6 +170,13 @@ fn pair_by(first: &Instr, second: &Instr, at: u64) -> Option<u64>
     Some(target - target % 2)
 }
 
+// Whether an instruction is a jalr: no other ends a pair.
+fn is_jalr(instr: &Instr) -> bool
+    ensures { (first : Shown) (at : ℕ) → result ≡ false → pair_by first instr.now at ≡ None }
+{
+    matches!(*instr, Instr::Jalr { .. })
+}
+
 // The target of the pair that ends at an address, if one does.
 #[tactic(auto, unfolding(loop_data::specs::Targets::pair_at))]
 pub(crate) fn pair_at(elf: &Elf, at: u64) -> Option<u64>
@@ -164,6 +184,9 @@ pub(crate) fn pair_at(elf: &Elf, at: u64) -> Option<u64>
     ensures { result ≡ pair_at elf.now at }
 {
     let second = instr_at(elf, at)?;
+    if !is_jalr(&second) {
+        return None;
+    }
     let first = instr_at(elf, before(at))?;
     pair_by(&first, &second, at)
 }

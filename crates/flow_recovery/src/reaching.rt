@@ -27,10 +27,15 @@ pub(crate) fn pair_in(elf: &Elf, found: &IndexSet<u64>, at: u64) -> Option<u64>
     ensures { (Contains found.now.keys (before at) × (result ≡ pair_at elf.now at))
         ⊎ ((¬ Contains found.now.keys (before at)) × (result ≡ None)) }
 {
-    if has(found, before(at)) {
-        pair_at(elf, at)
-    } else {
-        None
+    match pair_at(elf, at) {
+        Some(target) => {
+            if has(found, before(at)) {
+                Some(target)
+            } else {
+                None
+            }
+        }
+        None => None,
     }
 }
 
