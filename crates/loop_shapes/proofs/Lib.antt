@@ -44,3 +44,5 @@ pub mod Targets
 pub mod AddressLists
 pub mod OuterLoops
 pub mod PairRows
+pub mod RankedEdges
+pub mod Walking

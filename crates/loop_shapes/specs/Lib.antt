@@ -24,3 +24,5 @@ pub mod Astray
 pub mod Outer
 pub mod LoopBody
 pub mod StartFlags
+pub mod Ranks
+pub mod Walk

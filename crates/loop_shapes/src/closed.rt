@@ -6,6 +6,7 @@ ghost use Rattle.loop_shapes.specs.Net.{IsNet, IsOnlyEntry, IsPart, HasPart, Has
 ghost use Rattle.loop_data.specs.Paths.{Leads};
 ghost use Rattle.loop_shapes.specs.Places.{at, count_of};
 ghost use Rattle.loop_shapes.specs.PlaceSet.{IsPlaceSet};
+ghost use Rattle.loop_shapes.specs.Ranks.{AreRanks};
 ghost use Rattle.loop_data.specs.Sets.{IsListOf};
 ghost use Rattle.loop_shapes.specs.Lines.{AreRowsOf, IsRowOf};
 ghost use Rattle.loop_data.specs.Flows.{rows};
@@ -13,6 +14,7 @@ ghost use Rattle.loop_data.specs.Flows.{rows};
 use crate::around::{Around, is_wider, settle};
 use crate::net::Net;
 use crate::place_set::PlaceSet;
+use crate::word_ranks::leads_up;
 use loop_data::flow;
 use std::alloc::{AllocError, Global};
 
@@ -72,11 +74,13 @@ fn add_closed(
     net: &Net,
     set: &mut PlaceSet,
     around: &mut Around,
+    ranks: &[usize],
     row: &mut Vec<usize>,
     header: usize,
     source: usize,
 ) -> Result<(), AllocError>
     requires net { IsNet net.now }
+    requires ranks { AreRanks (graph_of net.now) ranks.now }
     requires header { header < count_of (graph_of net.now) }
     requires source { source < count_of (graph_of net.now) }
     requires edge { Leads (graph_of net.now) (at (graph_of net.now) source) (at (graph_of net.now) header) }
@@ -84,6 +88,9 @@ fn add_closed(
     ensures tried { OnOk result (HasTriedEdge (graph_of net.now) header source row.old.items row.new.items) }
     ensures around { OnOk result (AreAroundSoFar (graph_of net.now) header row.new.items around.new) }
 {
+    if leads_up(ranks, source, header) {
+        return Ok(());
+    }
     if !is_closed(net, set, header, source)? {
         return Ok(());
     }
@@ -101,9 +108,11 @@ fn closed_row(
     net: &Net,
     set: &mut PlaceSet,
     around: &mut Around,
+    ranks: &[usize],
     header: usize,
 ) -> Result<Vec<usize>, AllocError>
     requires net { IsNet net.now }
+    requires ranks { AreRanks (graph_of net.now) ranks.now }
     requires header { header < count_of (graph_of net.now) }
     requires around { AreAroundSoFar (graph_of net.now) header [] around.old }
     ensures closed { IfOk result (λ v. IsRowOf (graph_of net.now) (IsClosed (graph_of net.now)) header v.items) }
@@ -111,25 +120,28 @@ fn closed_row(
 {
     let mut row = Vec::new(set.alloc);
     for source in flow::row(net.before.as_slice(), header) {
-        add_closed(net, set, around, &mut row, header, *source)?;
+        add_closed(net, set, around, ranks, &mut row, header, *source)?;
     }
     Ok(row)
 }
 
-/// For each word the places of the words from which closed edges lead to it, and the loops round it.
+/// For each word the places of the words from which closed edges lead to it, and the loops round it; from the
+/// ranks of the words.
 pub fn closed_rows(
     net: &Net,
     set: &mut PlaceSet,
     around: &mut Around,
+    ranks: &[usize],
 ) -> Result<Vec<Vec<usize>>, AllocError>
     requires net { IsNet net.now }
+    requires ranks { AreRanks (graph_of net.now) ranks.now }
     requires around { AreAroundSoFar (graph_of net.now) 0 [] around.old }
     ensures closed { IfOk result (λ v. AreRowsOf (graph_of net.now) (IsClosed (graph_of net.now)) (rows v.items)) }
     ensures around { OnOk result (AreAround (graph_of net.now) around.new) }
 {
     let mut all = Vec::new(set.alloc);
     for header in 0..net.at.len() {
-        all.push(closed_row(net, set, around, header)?)?;
+        all.push(closed_row(net, set, around, ranks, header)?)?;
     }
     Ok(all)
 }

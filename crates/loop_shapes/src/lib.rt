@@ -38,5 +38,7 @@ mod sets;
 mod shape;
 #[cfg(test)]
 mod tests;
+mod walk;
+mod word_ranks;
 
 pub use listing::loops;

@@ -17,6 +17,7 @@ use crate::net::{Net, find};
 use crate::numbers::{astray_flags, nodes};
 use crate::open::without;
 use crate::place_set::PlaceSet;
+use crate::word_ranks::ranks_of;
 use loop_data::flow::{place_of, row};
 use std::alloc::{AllocError, Global};
 use strong_components::Successors;
@@ -46,8 +47,9 @@ pub fn program_of<'a>(net: Net<'a>, set: &mut PlaceSet) -> Result<Program<'a>, A
     ensures graph { IfOk result (λ p. program_graph p ≡ graph_of net.entry) }
 {
     let mut around = none_around(set.alloc, net.at.len())?;
-    let closed = closed_rows(&net, set, &mut around)?;
     let next = nodes(set.alloc, &net)?;
+    let ranks = ranks_of(set.alloc, &net, next.as_slice())?;
+    let closed = closed_rows(&net, set, &mut around, ranks.as_slice())?;
     let open_next = without(set.alloc, next.as_slice(), closed.as_slice())?;
     let astray = astray_flags(set.alloc, &net)?;
     Ok(Program {

@@ -1,4 +1,4 @@
-use Rattle.std.proofs.Common.{◌≡◌, ◌⊎◌, ℕ, length, inl, inr, List, [], ◌∷◌, ◌++◌, ◌∙◌, true, false, Option, Some, sym, subst, ap, arith}
+use Rattle.std.proofs.Common.{◌≡◌, ◌⊎◌, ℕ, length, inl, inr, List, [], ◌∷◌, ◌++◌, ◌∙◌, true, false, Option, Some, refl, sym, subst, ap, arith}
 use Rattle.std.proofs.lemmas.Bool.{false≢true}
 use Rattle.std.specs.List.{Contains}
 use Rattle.std.proofs.lemmas.List.Elements.{Contains-push, Contains-push_cases, Contains-append_left}
@@ -7,10 +7,16 @@ use Rattle.loop_shapes.specs.Net.{graph_of}
 use Rattle.loop_shapes.proofs.Answered.{passed, failed}
 use Rattle.loop_shapes.proofs.ClosedRows.{tried_open, tried_closed}
 use Rattle.loop_shapes.proofs.Rounds.{rounds_more, rounds_wider, entries_within}
+use Rattle.loop_shapes.proofs.RankedEdges.{none_closed}
 use Rattle.loop_shapes.proofs.closed.add_closed.Goals as goal
 
 pub returns-then-not-branch-clause-tried : goal.returns-then-not-branch-clause-tried
 returns-then-not-branch-clause-tried c = tried_open (graph_of c.args.net.now) c.args.header c.args.source c.args.row.now.items (failed c.in_ok-is_closed.field-0 c.in_ok-is_closed.ensures.closed c.if-not-branch.true)
+
+pub returns-then-leads_up-clause-tried : goal.returns-then-leads_up-clause-tried
+returns-then-leads_up-clause-tried c =
+    let up = c.if-leads_up.ensures refl in
+    tried_open (graph_of c.args.net.now) c.args.header c.args.source c.args.row.now.items (λ closed. none_closed (graph_of c.args.net.now) c.requires.net.ordered c.args.ranks.now c.requires.ranks c.args.header c.args.source c.requires.header closed c.requires.source up.0 up.1)
 
 pub returns-clause-tried : goal.returns-clause-tried
 returns-clause-tried c = tried_closed (graph_of c.args.net.now) c.args.header c.args.source c.args.row.now.items c.push.new.self.items (passed c.in_ok-is_closed.field-0 c.in_ok-is_closed.ensures.closed c.if-not-branch.false) c.in_ok-push.ensures.items

@@ -24,16 +24,16 @@ pub without-requires : goal.without-requires
 without-requires c a b m =
     let G = graph_of c.args.net in
     let h = c.in_ok-closed.ensures.closed in
-    let x = subst (λ (vs : List (Vec ℕ Global)). Contains (row_at (rows vs) b) a) c.as_slice-2.ensures.value m in
+    let x = subst (λ (vs : List (Vec ℕ Global)). Contains (row_at (rows vs) b) a) c.as_slice-4.ensures.value m in
     let l = row_within (rows c.in_ok-closed.closed.items) b a x in
     let n = h.count in
     let k = ((h.each b (omega arith)).each a x).0 in
     let q = c.in_ok-next.ensures.count in
-    let e = ap (λ (vs : List Successors). length vs) c.as_slice.ensures.value in
+    let e = ap (λ (vs : List Successors). length vs) c.as_slice-3.ensures.value in
     omega arith
 
 pub returns-clause-program : goal.returns-clause-program
 returns-clause-program c =
     let G = graph_of c.args.net in
-    let cut = subst (λ (vs : List (Vec ℕ Global)). AreCut (rows vs) c.in_ok-next.next.items c.in_ok-open_next.open_next.items) c.as_slice-2.ensures.value (subst (λ (vs : List Successors). AreCut (rows c.as_slice-2.result.now) vs c.in_ok-open_next.open_next.items) c.as_slice.ensures.value c.in_ok-open_next.ensures) in
+    let cut = subst (λ (vs : List (Vec ℕ Global)). AreCut (rows vs) c.in_ok-next.next.items c.in_ok-open_next.open_next.items) c.as_slice-4.ensures.value (subst (λ (vs : List Successors). AreCut (rows c.as_slice-4.result.now) vs c.in_ok-open_next.open_next.items) c.as_slice-3.ensures.value c.in_ok-open_next.ensures) in
     record { net = c.requires.net; closed = c.in_ok-closed.ensures.closed; around = c.in_ok-closed.ensures.around; next = c.in_ok-next.ensures; open_edges = open_by G (rows c.in_ok-closed.closed.items) c.in_ok-next.next.items c.in_ok-open_next.open_next.items c.in_ok-next.ensures c.in_ok-closed.ensures.closed cut; astray = c.in_ok-astray.ensures }
