@@ -1,10 +1,10 @@
 -- Classes of words, and what words of a class do.
-use Rattle.std.proofs.Common.{◌≡◌, ◌≢◌, ℕ, ◌-◌, ◌≤◌, ◌⊎◌, ◌↔◌, inl, inr, Bool, true, false, not, ◌&&◌, ◌||◌, ◌==◌, Option, Some, None, get_or, ℤ, refl, ap, sym, ◌∙◌, subst, arith}
+use Rattle.std.proofs.Common.{◌≡◌, ◌≢◌, ℕ, ◌-◌, ◌+◌, ◌<◌, ◌≤◌, ◌⊎◌, ◌↔◌, inl, inr, Bool, true, false, not, ◌&&◌, ◌||◌, ◌==◌, Option, Some, None, List, [], ◌∷◌, ◌++◌, length, get_or, ℤ, refl, ap, sym, ◌∙◌, subst, arith}
 use Rattle.std.specs.List.{Contains}
 use Rattle.std.specs.Bool.{IsTrue}
 use Rattle.std.specs.Option.{IfSome, IfNone}
-use Rattle.std.proofs.lemmas.List.{length-map, get_or_default}
-use Rattle.std.proofs.lemmas.Bool.{false≢true}
+use Rattle.std.proofs.lemmas.List.{length-map, get_or_default, get_or_append_left, get_or_push, length_push}
+use Rattle.std.proofs.lemmas.Bool.{cases_lt, false≢true}
 use Rattle.std.proofs.lemmas.Bool.Decides.{nat_tests}
 use Rattle.std.proofs.lemmas.List.Elements.{Contains-get_or}
 use Rattle.rv64_decode.specs.Table.{decoded}
@@ -229,3 +229,16 @@ paired_by G up x r None le found none = (λ e. absurd (cc), back)
         let n = p.next in
         let b : p.before ≡ x - 4 = omega arith in
         absurd (none (subst (IsWord G) b (word_of_meaning G p.before (Some (Upper Auipc r p.imm)) p.auipc)))
+
+-- the class of one more word
+pub classes_push : (P : ℕ → Class → Type 0) (old new : List Class) (class : Class) (n : ℕ) → new ≡ old ++ class ∷ [] → (length old ≡ n) × ((i : ℕ) → i < n → P i (get_or old i Nothing)) → P n class → (length new ≡ n + 1) × ((i : ℕ) → i < n + 1 → P i (get_or new i Nothing))
+classes_push P old new class n e a p = (ap length e ∙ length_push old class ∙ ap (λ k. k + 1) a.0, λ i l. subst (λ (q : List Class). P i (get_or q i Nothing)) (sym e) (by i l (cases_lt i n)))
+  where
+    by : (i : ℕ) → i < n + 1 → (i < n) ⊎ (n ≤ i) → P i (get_or (old ++ class ∷ []) i Nothing)
+    by i l (inl m) =
+        let c = a.0 in
+        subst (P i) (sym (get_or_append_left old (class ∷ []) Nothing i (omega arith))) (a.1 i m)
+    by i l (inr m) =
+        let c = a.0 in
+        let same : n ≡ i = omega arith in
+        subst (P i) (sym (get_or_push old class Nothing i (c ∙ same))) (subst (λ (k : ℕ). P k class) same p)

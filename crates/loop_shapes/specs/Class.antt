@@ -1,5 +1,5 @@
 -- Words by what matters of them to loops.
-use Rattle.std.specs.Prelude.{ℕ, ◌≡◌, ◌↔◌, ◌==◌, ◌&&◌, ◌||◌, not, Bool, true, false, Option, Some, None, IsTrue}
+use Rattle.std.specs.Prelude.{ℕ, ◌≡◌, ◌<◌, ◌↔◌, List, length, slice_index_or, ◌==◌, ◌&&◌, ◌||◌, not, Bool, true, false, Option, Some, None, IsTrue}
 use Rattle.std.specs.List.{Contains}
 use Rattle.rv64_decode.specs.Table.{decoded}
 use Rattle.rv64_decode.specs.declared.instr.Instr.{Instr}
@@ -12,6 +12,7 @@ use Rattle.loop_shapes.specs.declared.kind.Class.TheVariants.{Jump, RegisterJump
 use Rattle.loop_shapes.specs.declared.kind.Kind.{Kind}
 use Rattle.loop_shapes.specs.declared.kind.Kind.TheVariants.{Calls, Asks, JumpsAnywhere, IsNothing, Branches}
 use Rattle.loop_data.specs.Instructions.{IsPaired}
+use Rattle.loop_shapes.specs.Places.{at, count_of}
 
 -- the class of an instruction
 abbrev pub class_of : Option Instr → Class
@@ -44,3 +45,8 @@ does_of JumpsAnywhere (RegisterJump rd rs1) paired = (rd == 0) || not paired
 does_of IsNothing Nothing paired = true
 does_of Branches Fork paired = true
 does_of _ _ paired = false
+
+-- the classes of the words, by their places
+pub record AreClasses (G : Graph) (classes : List Class) : Type 0 where
+  pub count : length classes ≡ count_of G
+  pub each : (i : ℕ) → i < count_of G → IsWordOfClass G (at G i) (slice_index_or classes i Nothing)

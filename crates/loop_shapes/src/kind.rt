@@ -1,5 +1,5 @@
-ghost use Rattle.std.specs.Prelude.{◌≡◌, ◌↔◌, ◌<◌, IfSome, IfNone, IsTrue, ℕ};
-ghost use Rattle.loop_shapes.specs.Class.{IsWordOfClass, HasPairing, class_of, does_of};
+ghost use Rattle.std.specs.Prelude.{◌≡◌, ◌↔◌, ◌<◌, IfOk, IfSome, IfNone, IsTrue, ℕ};
+ghost use Rattle.loop_shapes.specs.Class.{AreClasses, IsWordOfClass, HasPairing, class_of, does_of};
 ghost use Rattle.loop_data.specs.Instructions.{IsPaired};
 ghost use Rattle.loop_shapes.specs.Kinds.{HasKind};
 ghost use Rattle.loop_shapes.specs.Net.{IsNet, graph_of};
@@ -11,6 +11,7 @@ ghost use Rattle.rv64_decode.specs.Fields.{rd_of, rs1_of};
 use crate::net::{Net, address_of};
 use loop_data::flow::place_of;
 use rv64_decode::{Instr, UpperOp, decode};
+use std::alloc::{AllocError, Global};
 
 /// What a word does that a loop may not do, or must do to leave.
 #[derive(Clone, Copy, PartialEq, Eq, Debug)]
@@ -92,6 +93,18 @@ fn class_of_place(net: &Net, place: usize) -> Class
     class_of_word(net.graph.words.as_slice()[place].bits)
 }
 
+/// The classes of the words, by their places.
+pub fn classes_of(alloc: Global, net: &Net) -> Result<Vec<Class>, AllocError>
+    requires { IsNet net.now }
+    ensures { IfOk result (λ v. AreClasses (graph_of net.now) v.items) }
+{
+    let mut all = Vec::with_capacity(alloc, net.at.len())?;
+    for place in 0..net.at.len() {
+        all.push(class_of_place(net, place))?;
+    }
+    Ok(all)
+}
+
 // The class of the word at an address.
 fn class_at(net: &Net, x: u64) -> Option<Class>
     requires { IsNet net.now }
@@ -154,14 +167,15 @@ fn does(kind: Kind, class: Class, paired: bool) -> bool
     }
 }
 
-/// Whether the word at a place does this.
-pub fn has_kind_at(net: &Net, place: usize, kind: Kind) -> bool
+/// Whether the word at a place does this, from the classes of the words.
+pub fn has_kind_at(net: &Net, classes: &[Class], place: usize, kind: Kind) -> bool
     requires net { IsNet net.now }
+    requires classes { AreClasses (graph_of net.now) classes.now }
     requires within { place < count_of (graph_of net.now) }
     ensures { IsTrue result ↔ HasKind kind (graph_of net.now) (at (graph_of net.now) place) }
 {
     let x = address_of(net, place);
-    let class = class_of_place(net, place);
+    let class = classes[place];
     does(kind, class, pairing(net, x, class))
 }
 

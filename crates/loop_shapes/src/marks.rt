@@ -2,6 +2,7 @@ ghost use Rattle.std.specs.Prelude.{◌≡◌, ◌↔◌, ◌<◌, ℕ, IfOk, On
 ghost use Rattle.std.specs.Prelude.{slice_index_or, false};
 ghost use Rattle.std.specs.List.{Contains};
 ghost use Rattle.loop_data.specs.Bodies.{IsHeader};
+ghost use Rattle.loop_shapes.specs.Class.{AreClasses};
 ghost use Rattle.loop_shapes.specs.Kinds.{HasKind};
 ghost use Rattle.loop_shapes.specs.Marks.{AreWordMarks, AreNestFlags, ArePlacesShaped, lesser_of};
 ghost use Rattle.loop_shapes.specs.Outer.{AreKnown, IsSound, IsUnsound};
@@ -12,7 +13,7 @@ ghost use Rattle.loop_data.specs.Sets.{IsLeast};
 ghost use Rattle.loop_data.specs.Shape.{IsShaped};
 ghost use Rattle.loop_data.specs.Flows.{IsSet};
 
-use crate::kind::{Kind, has_kind_at};
+use crate::kind::{Class, Kind, classes_of, has_kind_at};
 use crate::nest::NestFlags;
 use crate::net::Net;
 use crate::outer::{is_outer, is_under};
@@ -41,13 +42,19 @@ pub struct Marks {
 }
 
 // Which words do this.
-fn kind_flags(alloc: Global, net: &Net, kind: Kind) -> Result<Vec<bool>, AllocError>
-    requires { IsNet net.now }
+fn kind_flags(
+    alloc: Global,
+    net: &Net,
+    classes: &[Class],
+    kind: Kind,
+) -> Result<Vec<bool>, AllocError>
+    requires net { IsNet net.now }
+    requires classes { AreClasses (graph_of net.now) classes.now }
     ensures { IfOk result (λ v. AreFlags (graph_of net.now) (HasKind kind (graph_of net.now)) v.items) }
 {
     let mut all = Vec::new(alloc);
     for place in 0..net.at.len() {
-        all.push(has_kind_at(net, place, kind))?;
+        all.push(has_kind_at(net, classes, place, kind))?;
     }
     Ok(all)
 }
@@ -197,11 +204,13 @@ pub fn marks_of(
     ensures { IfOk result (AreWordMarks (program_graph program.now)) }
 {
     let net = &program.net;
+    let classes = classes_of(set.alloc, net)?;
+    let classes = classes.as_slice();
     Ok(Marks {
-        calls: kind_flags(set.alloc, net, Kind::Calls)?,
-        asks: kind_flags(set.alloc, net, Kind::Asks)?,
-        jumps: kind_flags(set.alloc, net, Kind::JumpsAnywhere)?,
-        nothing: kind_flags(set.alloc, net, Kind::IsNothing)?,
+        calls: kind_flags(set.alloc, net, classes, Kind::Calls)?,
+        asks: kind_flags(set.alloc, net, classes, Kind::Asks)?,
+        jumps: kind_flags(set.alloc, net, classes, Kind::JumpsAnywhere)?,
+        nothing: kind_flags(set.alloc, net, classes, Kind::IsNothing)?,
         unsound: unsound_flags(program, flags.shaped.as_slice(), set)?,
         clean: unset_flags(set.alloc, net.at.len())?,
         crowded: flags.crowded,

@@ -14,7 +14,7 @@ pub returns : goal.returns
 returns c =
     let G = graph_of c.args.net.now in
     let inv = c.loop-place.invariant in
-    let n = ap length c.requires.addresses_are in
+    let n = ap length c.requires.net.addresses_are in
     let l = c.loop-place.auto.place-end in
     let t = c.loop-place-test.false in
     let v = c.args.net.now.at in
