@@ -6,4 +6,6 @@ pub mod Outcomes
 pub mod WordLists
 pub mod RowClasses
 pub mod NestClasses
+pub mod FirstReads
+pub mod PlaceWriters
 pub mod OneClass

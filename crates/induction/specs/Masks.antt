@@ -1,5 +1,5 @@
 -- For the words of a loop, by their places, the locations that all ways to them write, as bits of numbers.
-use Rattle.std.specs.Prelude.{ℕ, ◌≡◌, ◌<◌, ◌==◌, Bool, true, false, ◌&&◌, ◌||◌, if◌then◌else◌, List, [], ◌∷◌, length, None, slice_index, slice_index_or}
+use Rattle.std.specs.Prelude.{ℕ, ◌≡◌, ◌<◌, ◌≤◌, ◌==◌, Bool, true, false, ◌&&◌, ◌||◌, if◌then◌else◌, List, [], ◌∷◌, length, None, slice_index, slice_index_or}
 use Rattle.std.specs.Int.{bit_at}
 use Rattle.loop_data.specs.declared.flow.Flow.{Flow}
 use Rattle.loop_data.specs.Locations.{instr_writes, instr_reads}
@@ -55,3 +55,9 @@ pub record IsReadFirst (f : Flow) (masks : List ℕ) (r : ℕ) : Type 0 where
 abbrev pub AreWrittenFirst : Flow → List ℕ → ℕ → Type 0
 AreWrittenFirst f masks r =
     (p : ℕ) → p < length f.instrs.items → place_reads f p r ≡ true → has_bit (slice_index masks p) r ≡ true
+
+-- the bits tell which locations but x0 are read first
+abbrev pub AreFirstReads : Flow → List ℕ → ℕ → Type 0
+AreFirstReads f masks reads =
+    (r : ℕ) → 1 ≤ r → r < 48
+    → (has_bit reads r ≡ true → IsReadFirst f masks r) × (has_bit reads r ≡ false → AreWrittenFirst f masks r)

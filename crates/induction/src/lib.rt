@@ -7,6 +7,7 @@ pub mod laws;
 mod masks;
 mod moves;
 mod nest;
+mod reads;
 pub mod refusal;
 mod rows;
 #[cfg(test)]

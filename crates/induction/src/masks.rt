@@ -19,7 +19,7 @@ pub fn contains(mask: u64, r: usize) -> bool
 }
 
 /// A mask with one location more, unless that is x0, or none.
-fn with_location(mask: u64, location: usize) -> u64
+pub fn with_location(mask: u64, location: usize) -> u64
     ensures { (r : ℕ) → r < 48 → has_bit result r ≡ (has_bit mask r || (if r == 0 then false else location == r)) }
 {
     if location == 0 {
@@ -32,7 +32,7 @@ fn with_location(mask: u64, location: usize) -> u64
 }
 
 /// A mask with the register more that an instruction writes.
-fn with_register(mask: u64, register: u8) -> u64
+pub fn with_register(mask: u64, register: u8) -> u64
     ensures { (r : ℕ) → r < 48 → has_bit result r
         ≡ (has_bit mask r || (if nat_lt r 32 then (if r == 0 then false else register == r) else false)) }
 {

@@ -1,16 +1,16 @@
-ghost use Rattle.std.specs.Prelude.{ℕ, ◌≡◌, ◌<◌, [], true, false, length, slice_index, slice_index_or, IfOk};
+ghost use Rattle.std.specs.Prelude.{ℕ, ◌≡◌, ◌<◌, ◌≤◌, [], true, false, length, slice_index, slice_index_or, IfOk};
 ghost use Rattle.std.specs.List.Sorted.{IsStrictlyIncreasing};
 ghost use Rattle.loop_data.specs.declared.shape.Level.{Level};
 ghost use Rattle.loop_data.specs.LoopWords.{AreNest};
 ghost use Rattle.loop_data.specs.Lookups.{cell_map, AreNumbered};
 ghost use Rattle.loop_data.specs.Paths.{IsInOrder};
-ghost use Rattle.induction.specs.Masks.{IsMaskPast};
+ghost use Rattle.induction.specs.Masks.{IsMaskPast, AreFirstReads};
 ghost use Rattle.induction.specs.Words.{AreLoopWordsAt, IsPrivateAt, IsNotPrivateAt};
 
 use crate::masks::{after, contains, masks_of};
-use crate::writers::reads_first;
 use loop_data::flow::{Flow, loop_flow, place_of};
-use loop_data::{Cells, Graph, LoopShape, Values, value_pass};
+use loop_data::value_places::flow_values;
+use loop_data::{Cells, Graph, LoopShape, Values};
 use std::alloc::{AllocError, Global};
 
 /// The words of a loop with what is known at each of them, by their places in its body.
@@ -56,7 +56,7 @@ pub fn words_of(
 {
     let levels = shape.levels.as_slice();
     let flow = loop_flow(alloc, graph, cells, levels, level)?;
-    let points = value_pass(alloc, shape, level as u32, graph, cells)?;
+    let points = flow_values(alloc, graph, cells, levels, level, &flow)?;
     let loop_level = &levels[level];
     let body = loop_level.body.as_slice();
     let masks = masks_of(alloc, &flow, body, loop_level.header)?;
@@ -69,10 +69,10 @@ pub fn words_of(
     })
 }
 
-/// Whether each pass writes a location, and before any read of it.
-pub fn is_private(words: &Words, r: usize) -> bool
-    requires count { length words.now.masks.items ≡ length words.now.flow.instrs.items }
-    requires uses { length words.now.flow.uses.items ≡ length words.now.flow.instrs.items }
+/// Whether each pass writes a location, and before any read of it, where these are the locations that are read first.
+pub fn is_private(words: &Words, reads: u64, r: usize) -> bool
+    requires reads { AreFirstReads words.now.flow words.now.masks.items reads }
+    requires other { 1 ≤ r }
     requires location { r < 48 }
     ensures yes { result ≡ true → IsPrivateAt words.now r }
     ensures no { result ≡ false → IsNotPrivateAt words.now r }
@@ -80,5 +80,5 @@ pub fn is_private(words: &Words, r: usize) -> bool
     if !contains(words.always, r) {
         return false;
     }
-    !reads_first(&words.flow, words.masks.as_slice(), r)
+    !contains(reads, r)
 }

@@ -1,11 +1,11 @@
-ghost use Rattle.std.specs.Prelude.{ℕ, ◌≡◌, ◌<◌, true, false, length, slice_index};
-ghost use Rattle.loop_data.specs.Locations.{reads_register, reads_cell, instr_reads};
-ghost use Rattle.induction.specs.Masks.{place_writes, place_reads, IsReadFirst, AreWrittenFirst};
+ghost use Rattle.std.specs.Prelude.{ℕ, ◌≡◌, ◌<◌, true, false, nat_lt, if◌then◌else◌, Some, length, slice_index_or};
+ghost use Rattle.loop_data.specs.Locations.{writes_register, writes_cell, instr_writes};
+ghost use Rattle.induction.specs.Masks.{place_writes};
 ghost use Rattle.induction.specs.Writers.{with_writer, AreWriters};
+ghost use Rattle.induction.specs.declared.writers.Writers.TheVariants.{Nowhere};
 
-use crate::masks::contains;
 use loop_data::Flow;
-use loop_data::value_rows::instr_writes;
+use loop_data::value_rows::{is_store, target_of};
 use rv64_decode::Instr;
 
 /// Which words of a loop write a location.
@@ -20,13 +20,10 @@ pub enum Writers {
 }
 
 impl Writers {
-    /// The words up to a place, where those below it are these.
-    fn with(self, place: usize, writes: bool) -> Writers
-        ensures { result ≡ with_writer self place writes }
+    /// The words up to a place, which writes the location, where those below it are these.
+    fn with(self, place: usize) -> Writers
+        ensures { result ≡ with_writer self place true }
     {
-        if !writes {
-            return self;
-        }
         match self {
             Writers::Nowhere => Writers::At(place),
             _ => Writers::Several,
@@ -34,117 +31,62 @@ impl Writers {
     }
 }
 
-/// Whether the word at a place writes a location.
-fn writes_at(flow: &Flow, p: usize, r: usize) -> bool
-    requires within { p < length flow.now.instrs.items }
-    requires uses { length flow.now.uses.items ≡ length flow.now.instrs.items }
-    ensures { result ≡ place_writes flow.now p r }
+/// Takes the word at a place up among those that write the register that its instruction writes.
+fn add_register(writers: &mut [Writers; 48], instr: &Instr, place: usize)
+    ensures { (r : ℕ) → r < 48 → slice_index_or writers.new r Nowhere
+        ≡ with_writer (slice_index_or writers.old r Nowhere) place
+        (if nat_lt r 32 then writes_register instr.now r else false) }
 {
-    instr_writes(&flow.instrs[p], flow.uses[p], r)
+    let r = target_of(instr) as usize;
+    if r != 0 && r < 32 {
+        writers[r] = writers[r].with(place);
+    }
 }
 
-/// Which words write a location.
-pub fn which_write(flow: &Flow, r: usize) -> Writers
-    requires uses { length flow.now.uses.items ≡ length flow.now.instrs.items }
-    ensures { AreWriters flow.now (length flow.now.instrs.items) r result }
+/// Takes the word at a place up among those that write the cell that it accesses, where it writes it.
+fn add_cell(writers: &mut [Writers; 48], instr: &Instr, cell: u8, place: usize)
+    ensures { (r : ℕ) → r < 48 → slice_index_or writers.new r Nowhere
+        ≡ with_writer (slice_index_or writers.old r Nowhere) place
+        (if nat_lt r 32 then false else writes_cell instr.now (Some cell) r) }
 {
-    let mut found = Writers::Nowhere;
+    let r = 32 + cell as usize;
+    if r < 48 && is_store(instr) {
+        writers[r] = writers[r].with(place);
+    }
+}
+
+/// Takes the word at a place, which accesses this cell, if any, up among those that write what it writes.
+fn add_instr(writers: &mut [Writers; 48], instr: &Instr, cell: Option<u8>, place: usize)
+    ensures { (r : ℕ) → r < 48 → slice_index_or writers.new r Nowhere
+        ≡ with_writer (slice_index_or writers.old r Nowhere) place (instr_writes (Some instr.now) cell r) }
+{
+    add_register(writers, instr, place);
+    if let Some(cell) = cell {
+        add_cell(writers, instr, cell, place);
+    }
+}
+
+/// Takes the word at a place up among those that write what it writes.
+fn add_word(writers: &mut [Writers; 48], flow: &Flow, place: usize)
+    requires within { place < length flow.now.instrs.items }
+    requires uses { length flow.now.uses.items ≡ length flow.now.instrs.items }
+    ensures { (r : ℕ) → r < 48 → slice_index_or writers.new r Nowhere
+        ≡ with_writer (slice_index_or writers.old r Nowhere) place (place_writes flow.now place r) }
+{
+    if let Some(instr) = &flow.instrs[place] {
+        add_instr(writers, instr, flow.uses[place], place);
+    }
+}
+
+/// Which words write each location.
+pub fn writers_of(flow: &Flow) -> [Writers; 48]
+    requires uses { length flow.now.uses.items ≡ length flow.now.instrs.items }
+    ensures { (r : ℕ) → r < 48
+        → AreWriters flow.now (length flow.now.instrs.items) r (slice_index_or result r Nowhere) }
+{
+    let mut writers = [Writers::Nowhere; 48];
     for p in 0..flow.instrs.len() {
-        found = found.with(p, writes_at(flow, p, r));
+        add_word(&mut writers, flow, p);
     }
-    found
-}
-
-/// Whether an instruction reads a register.
-fn reads_register(instr: &Instr, r: u8) -> bool
-    ensures { result ≡ reads_register instr.now r }
-{
-    match *instr {
-        Instr::Alu {
-            op: _,
-            rd: _,
-            rs1,
-            rs2,
-        } => rs1.number() == r || rs2.number() == r,
-        Instr::AluImm {
-            op: _,
-            rd: _,
-            rs1,
-            imm: _,
-        } => rs1.number() == r,
-        Instr::Load {
-            op: _,
-            rd: _,
-            rs1,
-            imm: _,
-        } => rs1.number() == r,
-        Instr::Jalr { rd: _, rs1, imm: _ } => rs1.number() == r,
-        Instr::Store {
-            op: _,
-            rs1,
-            rs2,
-            imm: _,
-        } => rs1.number() == r || rs2.number() == r,
-        Instr::Branch {
-            op: _,
-            rs1,
-            rs2,
-            imm: _,
-        } => rs1.number() == r || rs2.number() == r,
-        _ => false,
-    }
-}
-
-/// Whether an instruction that accesses this cell, if any, reads the cell at a location.
-fn reads_cell(instr: &Instr, cell: Option<u8>, r: usize) -> bool
-    ensures { result ≡ reads_cell instr.now cell r }
-{
-    match (*instr, cell) {
-        (
-            Instr::Load {
-                op: _,
-                rd: _,
-                rs1: _,
-                imm: _,
-            },
-            Some(k),
-        ) => 32 + k as usize == r,
-        _ => false,
-    }
-}
-
-/// Whether a word that accesses this cell, if any, reads a location.
-fn reads(instr: &Option<Instr>, cell: Option<u8>, r: usize) -> bool
-    ensures { result ≡ instr_reads instr.now cell r }
-{
-    match instr {
-        Some(instr) if r < 32 => reads_register(instr, r as u8),
-        Some(instr) => reads_cell(instr, cell, r),
-        None => false,
-    }
-}
-
-/// Whether the word at a place reads a location.
-fn reads_at(flow: &Flow, p: usize, r: usize) -> bool
-    requires within { p < length flow.now.instrs.items }
-    requires uses { length flow.now.uses.items ≡ length flow.now.instrs.items }
-    ensures { result ≡ place_reads flow.now p r }
-{
-    reads(&flow.instrs[p], flow.uses[p], r)
-}
-
-/// Whether a word reads a location that a way to it may not have written.
-pub fn reads_first(flow: &Flow, masks: &[u64], r: usize) -> bool
-    requires count { length masks.now ≡ length flow.now.instrs.items }
-    requires uses { length flow.now.uses.items ≡ length flow.now.instrs.items }
-    requires location { r < 48 }
-    ensures yes { result ≡ true → IsReadFirst flow.now masks.now r }
-    ensures no { result ≡ false → AreWrittenFirst flow.now masks.now r }
-{
-    for p in 0..flow.instrs.len() {
-        if reads_at(flow, p, r) && !contains(masks[p], r) {
-            return true;
-        }
-    }
-    false
+    writers
 }
