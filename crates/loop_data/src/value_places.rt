@@ -17,22 +17,19 @@ use crate::cells::{Cells, use_at};
 use crate::flow::{Flow, instr_next, loop_flow, row};
 use crate::graph::Graph;
 use crate::shape::{Level, LoopShape};
-use crate::value_rows::{is_store, met, target_of, values_after};
+use crate::value_rows::{is_store, met, set_after, target_of};
 use crate::values::{Value, Values};
 use linear_forms::Loc;
 use rv64_decode::Instr;
 use std::alloc::{AllocError, Global};
 
-/// Points at which nothing is known, one for each word of a body.
-fn no_values(alloc: Global, body: &[u64]) -> Result<Vec<Values>, AllocError>
+/// Points at which all the same is known, one for each word of a body.
+fn same_values(alloc: Global, of: &[Value; 48], body: &[u64]) -> Result<Vec<Values>, AllocError>
     ensures { IfOk result (λ v. map (λ (p : Values). p.at) v.items ≡ body.now) }
 {
     let mut all = Vec::with_capacity(alloc, body.len())?;
     for x in body {
-        all.push(Values {
-            at: *x,
-            of: [Value::Nothing; 48],
-        })?;
+        all.push(Values { at: *x, of: *of })?;
     }
     Ok(all)
 }
@@ -53,16 +50,14 @@ fn header_value(cells: &Cells, r: usize) -> Value
     }
 }
 
-/// What is known at the header.
-fn header_values(cells: &Cells) -> [Value; 48]
+/// Sets what is known to that at the header.
+fn set_header(of: &mut [Value; 48], cells: &Cells)
     ensures { (r : ℕ) → r < 48
-        → fact_in result r ≡ header_fact (record { instr = λ u. None; cells = cell_map cells.now }) r }
+        → fact_in of.new r ≡ header_fact (record { instr = λ u. None; cells = cell_map cells.now }) r }
 {
-    let mut of = [Value::Nothing; 48];
     for r in 0..48usize {
         of[r] = header_value(cells, r);
     }
-    of
 }
 
 /// Sets the flag of the register that an instruction writes.
@@ -176,14 +171,20 @@ fn forget_loops(of: &mut [Value; 48], graph: &Graph, cells: &Cells, levels: &[Le
     }
 }
 
-/// What is known of each location after the word at a place.
-fn past_values(flow: &Flow, points: &[Values], k: usize) -> [Value; 48]
+/// Sets what is known of each location to what is known after the word at a place.
+fn set_past(of: &mut [Value; 48], flow: &Flow, points: &[Values], k: usize)
     requires within { k < length points.now }
     requires count { length flow.now.instrs.items ≡ length points.now }
     requires uses { length flow.now.uses.items ≡ length points.now }
-    ensures { (r : ℕ) → r < 48 → fact_in result r ≡ past flow.now points.now k r }
+    ensures { (r : ℕ) → r < 48 → fact_in of.new r ≡ past flow.now points.now k r }
 {
-    values_after(points[k].at, &flow.instrs[k], flow.uses[k], &points[k].of)
+    set_after(
+        of,
+        points[k].at,
+        &flow.instrs[k],
+        flow.uses[k],
+        &points[k].of,
+    )
 }
 
 /// Leaves of what is known of each location what others tell of it too.
@@ -204,77 +205,24 @@ fn meet_past(of: &mut [Value; 48], flow: &Flow, points: &[Values], k: usize)
     ensures { (r : ℕ) → r < 48 → (x : Fact) → (fact_in of.new r ≡ Some x)
         ↔ ((fact_in of.old r ≡ Some x) × (past flow.now points.now k r ≡ Some x)) }
 {
-    let others = past_values(flow, points, k);
+    let mut others = [Value::Nothing; 48];
+    set_past(&mut others, flow, points, k);
     meet(of, &others);
 }
 
-/// What is known where the edges from these places meet.
-fn met_values(flow: &Flow, points: &[Values], sources: &[usize]) -> [Value; 48]
+/// Sets what is known of each location to what is known where the edges from these places meet.
+fn set_met(of: &mut [Value; 48], flow: &Flow, points: &[Values], sources: &[usize])
     requires some { 1 ≤ length sources.now }
     requires within { All (λ k. k < length points.now) sources.now }
     requires count { length flow.now.instrs.items ≡ length points.now }
     requires uses { length flow.now.uses.items ≡ length points.now }
-    ensures { (r : ℕ) → r < 48 → (x : Fact) → (fact_in result r ≡ Some x)
+    ensures { (r : ℕ) → r < 48 → (x : Fact) → (fact_in of.new r ≡ Some x)
         ↔ ((k : ℕ) → Contains sources.now k → past flow.now points.now k r ≡ Some x) }
 {
-    let mut of = past_values(flow, points, sources[0]);
+    set_past(of, flow, points, sources[0]);
     for i in 1..sources.len() {
-        meet_past(&mut of, flow, points, sources[i]);
+        meet_past(of, flow, points, sources[i]);
     }
-    of
-}
-
-/// What is known at a word that is no header of the loop itself, to which edges lead from these places.
-fn inner_values(
-    graph: &Graph,
-    cells: &Cells,
-    levels: &[Level],
-    v: u64,
-    flow: &Flow,
-    points: &[Values],
-    sources: &[usize],
-) -> [Value; 48]
-    requires graph { IsInOrder graph.now }
-    requires cells { AreNumbered cells.now }
-    requires some { 1 ≤ length sources.now }
-    requires within { All (λ k. k < length points.now) sources.now }
-    requires count { length flow.now.instrs.items ≡ length points.now }
-    requires uses { length flow.now.uses.items ≡ length points.now }
-    ensures { (r : ℕ) → r < 48 → IsInnerFact (lost_by (code_of graph.now (cell_map cells.now)) levels.now v r)
-        flow.now points.now sources.now r (fact_in result r) }
-{
-    let mut of = met_values(flow, points, sources);
-    forget_loops(&mut of, graph, cells, levels, v);
-    of
-}
-
-/// What is known at the word at a place, out of what is known at its sources.
-fn place_values(
-    graph: &Graph,
-    cells: &Cells,
-    levels: &[Level],
-    header: u64,
-    flow: &Flow,
-    points: &[Values],
-    p: usize,
-) -> [Value; 48]
-    requires graph { IsInOrder graph.now }
-    requires cells { AreNumbered cells.now }
-    requires within { p < length points.now }
-    requires count { length flow.now.instrs.items ≡ length points.now }
-    requires uses { length flow.now.uses.items ≡ length points.now }
-    requires rows { length (rows flow.now.sources.items) ≡ length points.now }
-    requires sources { (k : ℕ) → Contains (row_at (rows flow.now.sources.items) p) k → k < length points.now }
-    requires some { (values_at points.now p).at ≢ header → 1 ≤ length (row_at (rows flow.now.sources.items) p) }
-    ensures { IsState (code_of graph.now (cell_map cells.now)) levels.now header flow.now points.now p
-        (values_at points.now p).at result }
-{
-    let v = points[p].at;
-    if v == header {
-        return header_values(cells);
-    }
-    let sources = row(flow.sources.as_slice(), p);
-    inner_values(graph, cells, levels, v, flow, points, sources)
 }
 
 /// Sets what is known at the word at a place.
@@ -300,7 +248,16 @@ fn set_place(
     ensures { IsSetAt (code_of graph.now (cell_map cells.now)) levels.now header flow.now p points.old.items
         points.new.items }
 {
-    let of = place_values(graph, cells, levels, header, flow, points.as_slice(), p);
+    let v = points[p].at;
+    let mut of = points[p].of;
+    if v == header {
+        set_header(&mut of, cells);
+        points[p].of = of;
+        return;
+    }
+    let sources = row(flow.sources.as_slice(), p);
+    set_met(&mut of, flow, points.as_slice(), sources);
+    forget_loops(&mut of, graph, cells, levels, v);
     points[p].of = of;
 }
 
@@ -347,7 +304,9 @@ pub fn flow_values(
         → IsFlow graph.now (cell_map cells.now) levels.now l.body flow.now }
     ensures { IfOk result (λ v. AreFactsOf graph.now levels.now (cell_map cells.now) level v.items) }
 {
-    let mut points = no_values(alloc, levels[level].body.as_slice())?;
+    let mut of = [Value::Nothing; 48];
+    set_header(&mut of, cells);
+    let mut points = same_values(alloc, &of, levels[level].body.as_slice())?;
     set_places(graph, cells, levels, level, flow, &mut points);
     Ok(points)
 }

@@ -427,20 +427,21 @@ fn set_written(
     }
 }
 
-/// What is known of each location after a word that accesses this cell, if any, out of what is known before it.
-pub fn values_after(
+/// Sets what is known of each location to what is known after a word that accesses this cell, if any, out of what is
+/// known before it.
+pub fn set_after(
+    after: &mut [Value; 48],
     at: u64,
     instr: &Option<Instr>,
     cell: Option<u8>,
     values: &[Value; 48],
-) -> [Value; 48]
-    ensures { (r : ℕ) → r < 48 → fact_in result r ≡ fact_past at instr.now cell (fact_in values.now) r }
+)
+    ensures { (r : ℕ) → r < 48 → fact_in after.new r ≡ fact_past at instr.now cell (fact_in values.now) r }
 {
-    let mut after = *values;
+    *after = *values;
     if let Some(instr) = instr {
-        set_written(&mut after, at, instr, cell, values);
+        set_written(after, at, instr, cell, values);
     }
-    after
 }
 
 /// Whether both stand for the same fact, and for one at all.

@@ -3,7 +3,7 @@ use Rattle.loop_data.specs.Facts.{Fact}
 use Rattle.loop_data.specs.Lookups.{fact_in}
 use Rattle.loop_data.specs.ValueStates.{past}
 use Rattle.loop_data.proofs.ValueFills.{agreed_more, agreed_all}
-use Rattle.loop_data.proofs.value_places.met_values.Goals as goal
+use Rattle.loop_data.proofs.value_places.set_met.Goals as goal
 
 pub loop-i-preserved : goal.loop-i-preserved
 loop-i-preserved c r l =
