@@ -3,7 +3,6 @@ use Rattle.std.proofs.Common.{◌≡◌, ℕ, ◌<◌, List, length, get_or, Res
 use Rattle.std.specs.Result.{IfOk, IfErr}
 use Rattle.std.specs.List.{Contains}
 use Rattle.std.proofs.lemmas.List.Elements.{Contains-get_or}
-use Rattle.loop_data.specs.declared.equations.Point.{Point}
 use Rattle.loop_data.specs.declared.graph.Graph.{Graph}
 use Rattle.loop_data.specs.declared.shape.Level.{Level}
 use Rattle.loop_data.specs.Nests.{Nest, In, Holds, nest_of}
@@ -21,8 +20,8 @@ if_err (Ok a) P Q f p = p
 if_err (Err e) P Q f p = f e p
 
 -- what is so of some lists is so of the same lists
-pub carried : (P : List Level → List ℕ → List Point → Type 0) (ls ms : List Level) (xs ys : List ℕ) (ps qs : List Point) → ls ≡ ms → xs ≡ ys → ps ≡ qs → P ls xs ps → P ms ys qs
-carried P ls ms xs ys ps qs a b c h = subst (λ z. P ms ys z) c (subst (λ z. P ms z ps) b (subst (λ z. P z xs ps) a h))
+pub carried : (P : List Level → List ℕ → Type 0) (ls ms : List Level) (xs ys : List ℕ) → ls ≡ ms → xs ≡ ys → P ls xs → P ms ys
+carried P ls ms xs ys a b h = subst (λ z. P ms z) b (subst (λ z. P z xs) a h)
 
 module _ (G : Graph) (ls : List Level) (nest : AreNest G ls) where
   pub deep : (l : Level) → Contains ls l → l.depth < 3

@@ -5,7 +5,7 @@ ghost use Rattle.loop_data.specs.Accesses.{address_form, is_multiple, is_regular
 ghost use Rattle.loop_data.specs.Lookups.{form_at};
 
 use linear_forms::Form;
-use loop_data::Point;
+use loop_data::Points;
 use loop_data::lookups::form_read;
 use rv64_decode::{Reg, Width};
 
@@ -17,7 +17,7 @@ fn offset_form(offset: i32) -> Option<Form>
 }
 
 /// The form of the address at an offset from a register, before the word at an address.
-fn address_form(points: &[Point], at: u64, base: Reg, offset: i32) -> Option<Form>
+fn address_form(points: &Points, at: u64, base: Reg, offset: i32) -> Option<Form>
     ensures { result ≡ address_form (form_at points.now at) base offset }
 {
     match (form_read(points, at, base), offset_form(offset)) {
@@ -45,13 +45,7 @@ fn is_regular(width: Width, form: &Form) -> bool
 
 /// The form of the address that a word accesses, if it has one and each of its strides is a multiple of the
 /// width.
-pub fn accessed_form(
-    points: &[Point],
-    at: u64,
-    base: Reg,
-    offset: i32,
-    width: Width,
-) -> Option<Form>
+pub fn accessed_form(points: &Points, at: u64, base: Reg, offset: i32, width: Width) -> Option<Form>
     ensures { result ≡ if_regular width (address_form (form_at points.now at) base offset) }
 {
     match address_form(points, at, base, offset) {

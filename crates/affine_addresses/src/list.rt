@@ -17,7 +17,7 @@ use arrayvec::ArrayVec;
 use linear_forms::Form;
 use loop_data::flow::instr_at;
 use loop_data::nesting::{innermost, places_in};
-use loop_data::{Access, Accesses, Cells, Equations, Graph, Level, LoopShape, Point};
+use loop_data::{Access, Accesses, Cells, Equations, Graph, Level, LoopShape, Points};
 use rv64_decode::{Instr, Reg, Width};
 
 /// That the address of an access has no form, or that one of its strides is no multiple of the width.
@@ -55,7 +55,7 @@ fn access_with(levels: &[Level], at: u64, form: Form, width: Width, store: bool)
 /// The access of a word at an offset from a register.
 fn access_from(
     levels: &[Level],
-    points: &[Point],
+    points: &Points,
     at: u64,
     base: Reg,
     offset: i32,
@@ -78,7 +78,7 @@ fn access_from(
 /// The access of a word that stands for this instruction, if it is a load or a store.
 fn access_by(
     levels: &[Level],
-    points: &[Point],
+    points: &Points,
     at: u64,
     instr: Instr,
 ) -> Option<Result<Access, Irregular>>
@@ -116,7 +116,7 @@ fn access_at(
     graph: &Graph,
     cells: &Cells,
     levels: &[Level],
-    points: &[Point],
+    points: &Points,
     at: u64,
 ) -> Option<Result<Access, Irregular>>
     requires graph { IsInOrder graph.now }
@@ -141,7 +141,7 @@ fn add_access(
     graph: &Graph,
     cells: &Cells,
     levels: &[Level],
-    points: &[Point],
+    points: &Points,
     at: u64,
     list: &mut ArrayVec<Access, 32>,
 ) -> Result<(), Irregular>
@@ -171,7 +171,7 @@ fn accesses_of(
     graph: &Graph,
     cells: &Cells,
     levels: &[Level],
-    points: &[Point],
+    points: &Points,
     body: &[u64],
 ) -> Result<Accesses, Irregular>
     requires graph { IsInOrder graph.now }
@@ -219,5 +219,5 @@ pub fn accesses(
 {
     let levels = shape.levels.as_slice();
     let body = levels[0].body.as_slice();
-    accesses_of(graph, cells, levels, equations.points.as_slice(), body)
+    accesses_of(graph, cells, levels, &equations.points, body)
 }

@@ -58,7 +58,7 @@ fn answer_of(
     let mut trips = Vec::new(alloc);
     trips.push(trip)?;
     let equations = Equations {
-        points: Points::new(Vec::new(alloc)),
+        points: Points::without_forms(alloc, &[])?,
         duties: Duties::new(Vec::new(alloc)),
         unconfirmed: None,
     };
@@ -263,7 +263,7 @@ fn pairs_are_in_order(rt: HostRuntime) -> Result<(), Fail> {
     let alloc = rt.alloc();
     let elf = program(alloc, true)?;
     let equations = Equations {
-        points: Points::new(Vec::new(alloc)),
+        points: Points::without_forms(alloc, &[])?,
         duties: Duties::new(Vec::new(alloc)),
         unconfirmed: None,
     };

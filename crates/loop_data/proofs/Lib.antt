@@ -33,3 +33,5 @@ pub mod Effects
 pub mod Least
 pub mod OnePlace
 pub mod Keys
+pub mod Pooling
+pub mod SameTerms

@@ -28,6 +28,8 @@ pub mod Classes
 pub mod Executing
 pub mod FactLaws
 pub mod Flows
+pub mod Points
+pub mod PooledPoints
 pub mod Lookups
 pub mod Results
 pub mod Trips

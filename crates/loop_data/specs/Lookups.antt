@@ -11,7 +11,7 @@ use Rattle.loop_data.specs.declared.cells.Cells.{Cells}
 use Rattle.loop_data.specs.declared.classes.Class.{Class}
 use Rattle.loop_data.specs.declared.classes.Class.TheVariants.{Induction, Private as PrivateClass}
 use Rattle.loop_data.specs.declared.classes.Classes.{Classes}
-use Rattle.loop_data.specs.declared.equations.Point.{Point}
+use Rattle.loop_data.specs.Points.{Point}
 use Rattle.loop_data.specs.declared.shape.Level.{Level}
 use Rattle.loop_data.specs.declared.values.Value.{Value}
 use Rattle.loop_data.specs.declared.values.Value.TheVariants.{Known, Base, Nothing}

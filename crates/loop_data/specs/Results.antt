@@ -7,7 +7,7 @@ use Rattle.linear_forms.specs.Locations.{number_of, IsLocation}
 use Rattle.linear_forms.specs.declared.location.Loc.{Loc}
 use Rattle.loop_data.specs.declared.equations.Duty.{Duty}
 use Rattle.loop_data.specs.declared.equations.Equations.{Equations}
-use Rattle.loop_data.specs.declared.equations.Point.{Point}
+use Rattle.loop_data.specs.Points.{Point}
 use Rattle.loop_data.specs.declared.classes.Class.{Class}
 use Rattle.loop_data.specs.declared.classes.Class.TheVariants.{Induction, Private}
 use Rattle.loop_data.specs.declared.classes.Classes.{Classes}

@@ -1,16 +1,8 @@
 ghost use Rattle.std.specs.Prelude.{◌≡◌};
 
+use crate::points::Points;
 use linear_forms::{Form, Loc};
 use std::marker::Model;
-
-/// The forms of the locations before a word: of registers by their numbers, and from 32 on of cells.
-#[derive(Drop)]
-pub struct Point {
-    /// The address of the word.
-    pub at: u64,
-    /// The form of each location that has one.
-    pub forms: [Option<Form>; 48],
-}
 
 /// A form whose values have to be numbers of 32 bits at a word.
 #[derive(Drop)]
@@ -23,45 +15,6 @@ pub struct Duty {
     pub around: [u32; 3],
     /// The form.
     pub form: Form,
-}
-
-/// Points, seen as a list.
-#[derive(Drop)]
-pub struct Points {
-    points: Vec<Point>,
-}
-
-impl Model for Points {
-    ghost use Rattle.std.specs.Prelude.{List};
-    ghost use Rattle.loop_data.specs.declared.equations.Point.{Point};
-
-    ghost Value = { List Point };
-
-    ghost view = { λ p. p.points.items };
-}
-
-impl Points {
-    /// These points.
-    pub fn new(points: Vec<Point>) -> Points
-        ensures { result ≡ points.items }
-    {
-        Points { points }
-    }
-
-    /// The points as a slice.
-    pub fn as_slice(&self) -> &[Point]
-        ensures { result.now ≡ self.now }
-    {
-        self.points.as_slice()
-    }
-
-    /// The points, given back without a copy.
-    pub fn into_vec(self) -> Vec<Point>
-        ensures { result.items ≡ self }
-    {
-        let Points { points } = self;
-        points
-    }
 }
 
 /// Duties, seen as a list.

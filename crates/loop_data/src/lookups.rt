@@ -2,7 +2,7 @@ ghost use Rattle.std.specs.Prelude.{◌≡◌, ◌<◌};
 ghost use Rattle.loop_data.specs.FormRows.{form_read};
 ghost use Rattle.loop_data.specs.Lookups.{form_at};
 
-use crate::equations::Point;
+use crate::points::Points;
 use linear_forms::Form;
 use rv64_decode::Reg;
 
@@ -18,20 +18,20 @@ fn copied(form: &Option<Form>) -> Option<Form>
 
 /// The form of a location before the word at an address, if one of the points has the address and a form of the
 /// location.
-pub fn form_at(points: &[Point], at: u64, r: usize) -> Option<Form>
+pub fn form_at(points: &Points, at: u64, r: usize) -> Option<Form>
     requires { r < 48 }
     ensures { result ≡ form_at points.now at r }
 {
-    for point in points {
-        if point.at == at {
-            return copied(&point.forms[r]);
+    for k in 0..points.len() {
+        if points.at(k) == at {
+            return copied(points.form(k, r));
         }
     }
     None
 }
 
 /// The form that a register is read as at the word at an address: x0 is the constant 0.
-pub fn form_read(points: &[Point], at: u64, register: Reg) -> Option<Form>
+pub fn form_read(points: &Points, at: u64, register: Reg) -> Option<Form>
     ensures { result ≡ form_read (form_at points.now at) register }
 {
     let r = register.number() as usize;

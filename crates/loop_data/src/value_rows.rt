@@ -1,4 +1,4 @@
-ghost use Rattle.std.specs.Prelude.{ℕ, ◌≡◌, ◌==◌, ◌&&◌, ◌+◌, ◌<◌, ◌≤◌, ◌↔◌, ◌^◌, ◌+ℤ◌, ◌-ℤ◌, ◌*ℤ◌, ℤ, pos, Some, None, true, false, nat_lt, if◌then◌else◌, IsTrue};
+ghost use Rattle.std.specs.Prelude.{ℕ, ◌≡◌, ◌==◌, ◌&&◌, ◌+◌, ◌<◌, ◌≤◌, ◌↔◌, ◌^◌, ◌+ℤ◌, ◌-ℤ◌, ◌*ℤ◌, ℤ, pos, Some, None, true, false, nat_lt, if◌then◌else◌, IsTrue, IfSome};
 ghost use Rattle.rv64_decode.specs.Row.{signed32, signed64};
 ghost use Rattle.linear_forms.specs.Forms.{constant_fits};
 ghost use Rattle.loop_data.specs.Facts.{Fact, Number, ranged, short_of, fact_read, fact_sum, fact_difference, fact_short, fact_shifted, alu_fact, imm_fact, upper_fact, cell_fact, register_fact, store_fact, stored_fact, fact_past};
@@ -317,7 +317,9 @@ fn stored_value(instr: &Instr, values: &[Value; 48]) -> Value
 
 /// Whether an instruction is a store, and so writes the cell that it accesses.
 pub fn is_store(instr: &Instr) -> bool
-    ensures { (k r : ℕ) → writes_cell instr.now (Some k) r ≡ (result && (first_cell + k == r)) }
+    ensures cell { (k r : ℕ) → writes_cell instr.now (Some k) r ≡ (result && (first_cell + k == r)) }
+    ensures none { (r : ℕ) → writes_cell instr.now None r ≡ false }
+    ensures register { result ≡ true → target instr.now ≡ 0 }
 {
     match *instr {
         Instr::Store {
@@ -348,6 +350,25 @@ fn writes_cell(instr: &Instr, cell: Option<u8>, r: usize) -> bool
     }
 }
 
+/// The location that an instruction that accesses this cell, if any, writes.
+fn location_of(instr: &Instr, cell: Option<u8>) -> Option<usize>
+    ensures some { IfSome result (λ r. instr_writes (Some instr.now) cell r ≡ true) }
+    ensures only { (r : ℕ) → instr_writes (Some instr.now) cell r ≡ true → result ≡ Some r }
+{
+    if is_store(instr) {
+        return match cell {
+            Some(k) => Some(32 + k as usize),
+            None => None,
+        };
+    }
+    let r = target_of(instr);
+    if 0 < r && r < 32 {
+        Some(r as usize)
+    } else {
+        None
+    }
+}
+
 /// Whether an instruction that accesses this cell, if any, writes a location.
 pub fn instr_writes(instr: &Option<Instr>, cell: Option<u8>, r: usize) -> bool
     ensures { result ≡ instr_writes instr.now cell r }
@@ -356,6 +377,17 @@ pub fn instr_writes(instr: &Option<Instr>, cell: Option<u8>, r: usize) -> bool
         Some(instr) if r < 32 => r != 0 && target_of(instr) as usize == r,
         Some(instr) => writes_cell(instr, cell, r),
         None => false,
+    }
+}
+
+/// The location that an instruction that accesses this cell, if any, writes. It writes at most one.
+pub fn written_location(instr: &Option<Instr>, cell: Option<u8>) -> Option<usize>
+    ensures some { IfSome result (λ r. instr_writes instr.now cell r ≡ true) }
+    ensures only { (r : ℕ) → instr_writes instr.now cell r ≡ true → result ≡ Some r }
+{
+    match instr {
+        Some(instr) => location_of(instr, cell),
+        None => None,
     }
 }
 

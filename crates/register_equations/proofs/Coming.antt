@@ -16,38 +16,6 @@ use Rattle.register_equations.specs.Rows.{forms_in}
 use Rattle.register_equations.specs.States.{IsFree, IsHeaderForm}
 use Rattle.loop_data.specs.Results.{AreSmall, AreSmallSteps}
 
--- where a first form does not come along all edges, none does
-pub met_differs : (P : ℕ → LinearForm → Type 0) (ks : List ℕ) (o : Option LinearForm) (g : LinearForm) (d : ℕ) → 1 ≤ length ks → ((f : LinearForm) → (o ≡ Some f) ↔ P (get_or ks 0 d) f) → o ≡ Some g → (IsTrue false ↔ All (λ k. P k g) ks)
-    → (f : LinearForm) → (None ≡ Some f) ↔ All (λ k. P k f) ks
-met_differs P ks o g d some h e n f = (λ q. absurd (cc), back)
-  where
-    back : All (λ k. P k f) ks → None ≡ Some f
-    back a =
-        let p : o ≡ Some f = (h f).1 (a 0 d some) in
-        let q : f ≡ g = cc in
-        let t : IsTrue false = n.1 (subst (λ x. All (λ k. P k x) ks) q a) in
-        absurd (cc)
-
--- all have it where the first has, and those behind it
-pub all_past : (P : ℕ → Type 0) (ks : List ℕ) (d : ℕ) (b : Bool) → 1 ≤ length ks → P (get_or ks 0 d) → (IsTrue b ↔ All P (drop 1 ks)) → IsTrue b ↔ All P ks
-all_past P [] d b some first n = absurd (omega arith)
-all_past P (x ∷ xs) d b some first n = (λ t. forth t, λ a. n.1 (λ i e l. a (suc i) e (omega arith)))
-  where
-    forth : IsTrue b → (i e : ℕ) → i < length (x ∷ xs) → P (get_or (x ∷ xs) i e)
-    forth t zero e l = first
-    forth t (suc i) e l = n.0 t i e (omega arith)
-
-pub met_nothing : (P : ℕ → LinearForm → Type 0) (ks : List ℕ) (o : Option LinearForm) (d : ℕ) → 1 ≤ length ks → ((f : LinearForm) → (o ≡ Some f) ↔ P (get_or ks 0 d) f) → o ≡ None
-    → (f : LinearForm) → (None ≡ Some f) ↔ All (λ k. P k f) ks
-met_nothing P ks o d some h e f = (λ q. absurd (cc), λ a. sym e ∙ (h f).1 (a 0 d some))
-
--- lists of terms that are the same are so place by place
-pub terms_at : (ts us : List (Loc × ℤ)) (i : ℕ) (d e : Loc × ℤ) → i < length ts → i < length us → terms_of ts ≡ terms_of us
-    → term_of ((get_or ts i d).0, to_z w64 (of_z w64 (get_or ts i d).1)) ≡ term_of ((get_or us i e).0, to_z w64 (of_z w64 (get_or us i e).1))
-terms_at ts us i d e l m q =
-    let k = sym (get_or-map term_of ts i d (term_of d) l) ∙ ap (λ xs. get_or xs i (term_of d)) q ∙ get_or-map term_of us i e (term_of d) m in
-    ap (λ (t : EntryTerm). record { loc = t.loc; by = to_z w64 (of_z w64 t.by) }) k
-
 -- one more form is set, and those below it stay
 pub filled : (P : ℕ → Option LinearForm → Type 0) (S : List (Option LinearForm)) (r : ℕ) (x : Option LinearForm) → r < length S → ((q : ℕ) → q < r → P q (forms_in S q)) → P r x → (q : ℕ) → q < r + 1 → P q (forms_in (set S r x) q)
 filled P S r x l before here q m = by (cases_eq q r)

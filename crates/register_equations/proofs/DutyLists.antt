@@ -1,5 +1,5 @@
 -- Duties that are put one after the other.
-use Rattle.std.proofs.Common.{◌≡◌, ◌≢◌, ℕ, ◌+◌, ◌<◌, ◌≤◌, ◌⊎◌, inl, inr, List, [], ◌∷◌, ◌++◌, length, map, get_or, Option, Some, None, ap, sym, ◌∙◌, subst, arith}
+use Rattle.std.proofs.Common.{◌≡◌, ◌≢◌, ℕ, ◌+◌, ◌<◌, ◌≤◌, ◌⊎◌, inl, inr, List, [], ◌∷◌, ◌++◌, length, map, get_or, slice_index, Option, Some, None, ap, sym, ◌∙◌, subst, arith}
 use Rattle.std.specs.List.{Contains}
 use Rattle.std.specs.List.Sorted.{IsStrictlyIncreasing}
 use Rattle.std.proofs.lemmas.Bool.{cases_eq, cases_lt}
@@ -8,7 +8,7 @@ use Rattle.std.proofs.lemmas.List.Kept.{AllPairs-from_increasing}
 use Rattle.std.proofs.lemmas.List.Elements.{Contains-append_left, Contains-push, Contains-push_cases, Contains-get_or}
 use Rattle.linear_forms.specs.Forms.{LinearForm}
 use Rattle.loop_data.specs.declared.equations.Duty.{Duty}
-use Rattle.loop_data.specs.declared.equations.Point.{Point}
+use Rattle.loop_data.specs.Points.{Point, no_forms, point_at}
 use Rattle.loop_data.specs.declared.flow.Flow.{Flow}
 use Rattle.loop_data.specs.declared.shape.Level.{Level}
 use Rattle.loop_data.specs.LoopCode.{LoopCode}
@@ -16,7 +16,7 @@ use Rattle.loop_data.specs.FormRows.{duty}
 use Rattle.loop_data.specs.Lookups.{form_at}
 use Rattle.loop_data.specs.Results.{IsInnermost, IsAround, IsDuty, AreDuties}
 use Rattle.register_equations.specs.Rows.{forms_in}
-use Rattle.register_equations.specs.States.{no_forms, point_at, owed_at, IsDutyOf, duty_ats, IsDutyAdded, AreDutiesTo}
+use Rattle.register_equations.specs.States.{owed_at, IsDutyOf, duty_ats, IsDutyAdded, AreDutiesTo}
 use Rattle.register_equations.proofs.Solving.{at_by}
 
 increasing_push : (xs : List ℕ) (a : ℕ) → IsStrictlyIncreasing xs → ((k : ℕ) → k < length xs → get_or xs k 0 < a) → IsStrictlyIncreasing (xs ++ a ∷ [])
@@ -37,6 +37,15 @@ increasing_push xs a up below k l = by (cases_lt (k + 1) (length xs))
         let y = get_or_push xs a 0 (k + 1) (omega arith) in
         let z = below k (omega arith) in
         omega arith
+
+pub duty_here : (levels : List Level) (p : Point) (u : ℕ) (f : LinearForm) (d : Duty) → u ≡ p.at → d.at ≡ u → d.form ≡ f → IsInnermost levels u d.level → ((k : ℕ) → k < 3 → IsAround levels u k (slice_index d.around k)) → IsDutyOf levels p (Some f) d
+duty_here levels p u f d at a e i r =
+    record {
+      at = a ∙ at;
+      form = ap (λ x. Some x) (sym e);
+      innermost = subst (λ v. IsInnermost levels v d.level) at i;
+      around = λ k l. subst (λ v. IsAround levels v k (slice_index d.around k)) at (r k l);
+    }
 
 pub no_duties : (flow : Flow) (levels : List Level) (points : List Point) → AreDutiesTo flow levels points 0 []
 no_duties flow levels points =

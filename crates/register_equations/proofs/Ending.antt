@@ -5,7 +5,7 @@ use Rattle.std.proofs.lemmas.List.{get_or_default, get_or-map, length-map}
 use Rattle.std.proofs.lemmas.List.Elements.{Contains-get_or}
 use Rattle.linear_forms.specs.Forms.{LinearForm}
 use Rattle.loop_data.specs.declared.classes.Classes.{Classes}
-use Rattle.loop_data.specs.declared.equations.Point.{Point}
+use Rattle.loop_data.specs.Points.{without_forms, Point, no_forms, point_at}
 use Rattle.loop_data.specs.declared.flow.Flow.{Flow}
 use Rattle.loop_data.specs.declared.graph.Graph.{Graph}
 use Rattle.loop_data.specs.declared.shape.Level.{Level}
@@ -20,7 +20,7 @@ use Rattle.loop_data.specs.Results.{IsNestOf}
 use Rattle.loop_data.proofs.Steps.{contains_has}
 use Rattle.loop_data.proofs.FlowEdges.{forward_sources, place_of_word}
 use Rattle.loop_data.proofs.ValuePlaces.{some_source}
-use Rattle.register_equations.specs.States.{no_forms, point_at, IsFormPlace, AreFormsSet, AreSolvedPoints}
+use Rattle.register_equations.specs.States.{IsFormPlace, AreFormsSet, AreSolvedPoints}
 use Rattle.register_equations.proofs.Placed.{more_places}
 use Rattle.register_equations.proofs.Solving.{solved}
 
@@ -49,6 +49,18 @@ row_within G C ls body flow ps p f n i d l =
     let row = row_at (rows flow.sources.items) p in
     let s = (f.sources.each p (get_or row i d) (i, l, get_or_default row i (get_or row i d) d l)).0 in
     omega arith
+
+pub row_apart : (flow : Flow) (order : List ℕ) (i : ℕ) → IsOrder (rows flow.sources.items) order → i < length order → All (λ k. k ≢ get_or order i 0) (row_at (rows flow.sources.items) (get_or order i 0))
+row_apart flow order i o l j d m e =
+    let row = row_at (rows flow.sources.items) (get_or order i 0) in
+    let r = o.after i (get_or row j d) l (j, m, get_or_default row j (get_or row j d) d m) in
+    let lt = r.1 in
+    o.once r.0 i lt l (r.2 ∙ e)
+
+-- the addresses of points without forms
+pub bare_ats : (us : List ℕ) → map (λ (p : Point). p.at) (map without_forms us) ≡ us
+bare_ats [] = refl
+bare_ats (u ∷ us) = ap (λ xs. u ∷ xs) (bare_ats us)
 
 first_of : (ls : List Level) (root : Level) (inner : List Level) → ls ≡ root ∷ inner → In ls root
 first_of ls root inner e = subst (λ (xs : List Level). In xs root) (sym e) (inl refl)

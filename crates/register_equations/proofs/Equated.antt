@@ -16,7 +16,7 @@ use Rattle.loop_data.specs.declared.classes.Class.TheVariants.{Induction, Privat
 use Rattle.loop_data.specs.declared.classes.Classes.{Classes}
 use Rattle.loop_data.specs.declared.equations.Duty.{Duty}
 use Rattle.loop_data.specs.declared.equations.Equations.{Equations}
-use Rattle.loop_data.specs.declared.equations.Point.{Point}
+use Rattle.loop_data.specs.Points.{Point, no_forms, point_at}
 use Rattle.loop_data.specs.declared.flow.Flow.{Flow}
 use Rattle.loop_data.specs.declared.graph.Graph.{Graph}
 use Rattle.loop_data.specs.declared.shape.Level.{Level}
@@ -35,7 +35,7 @@ use Rattle.loop_data.proofs.Tests.{yes_no}
 use Rattle.loop_data.proofs.Steps.{contains_has}
 use Rattle.loop_data.proofs.ValuePlaces.{none_beyond}
 use Rattle.register_equations.specs.Rows.{forms_in}
-use Rattle.register_equations.specs.States.{code_with, no_forms, point_at, past, owed_at, AreSolvedPoints, AreDutiesTo}
+use Rattle.register_equations.specs.States.{code_with, past, owed_at, AreSolvedPoints, AreDutiesTo}
 use Rattle.register_equations.specs.Astray.{IsAstray, IsLeastAstray}
 use Rattle.register_equations.proofs.Solving.{at_by}
 use Rattle.register_equations.proofs.DutyLists.{duties_right}

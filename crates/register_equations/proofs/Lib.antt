@@ -7,6 +7,7 @@ pub mod ClassRows
 pub mod Strided
 pub mod Coming
 pub mod Placed
+pub mod Setting
 pub mod Solving
 pub mod Ending
 pub mod Unique

@@ -11,7 +11,7 @@ use Rattle.loop_data.specs.declared.classes.Class.{Class}
 use Rattle.loop_data.specs.declared.classes.Classes.{Classes}
 use Rattle.loop_data.specs.declared.equations.Duty.{Duty}
 use Rattle.loop_data.specs.declared.equations.Equations.{Equations}
-use Rattle.loop_data.specs.declared.equations.Point.{Point}
+use Rattle.loop_data.specs.Points.{Point}
 use Rattle.loop_data.specs.declared.graph.Graph.{Graph}
 use Rattle.loop_data.specs.declared.shape.Level.{Level}
 use Rattle.loop_data.specs.FormRows.{duty}

@@ -5,13 +5,13 @@ use Rattle.std.proofs.lemmas.Bool.{cases_eq}
 use Rattle.std.proofs.lemmas.List.{get_or-set_same, get_or-set_other, get_or_default}
 use Rattle.linear_forms.specs.Forms.{LinearForm}
 use Rattle.loop_data.specs.declared.classes.Classes.{Classes}
-use Rattle.loop_data.specs.declared.equations.Point.{Point}
+use Rattle.loop_data.specs.Points.{Point, no_forms, point_at}
 use Rattle.loop_data.specs.declared.flow.Flow.{Flow}
 use Rattle.loop_data.specs.declared.shape.Level.{Level}
 use Rattle.loop_data.specs.LoopCode.{LoopCode}
 use Rattle.loop_data.specs.Flows.{rows, row_at}
 use Rattle.register_equations.specs.Rows.{forms_in}
-use Rattle.register_equations.specs.States.{no_forms, point_at, past, IsKept, Comes, IsMet, IsHeaderForm, AreFormsAt, IsFormPlace, AreFormsSet}
+use Rattle.register_equations.specs.States.{past, IsKept, Comes, IsMet, IsHeaderForm, AreFormsAt, IsFormPlace, AreFormsSet}
 
 pub default_at : (ps : List Point) (p : ℕ) (x : Point) → p < length ps → (get_or ps p x).at ≡ (point_at ps p).at
 default_at ps p x l = ap (λ (y : Point). y.at) (get_or_default ps p x no_forms l)
@@ -49,7 +49,7 @@ AreSame old new ks = (k : ℕ) → Contains ks k → point_at old k ≡ point_at
 at_of : (ks : List ℕ) (i d : ℕ) → i < length ks → Contains ks (get_or ks i d)
 at_of ks i d l = (i, l, get_or_default ks i (get_or ks i d) d l)
 
-all_moved : (inner : List Level) (flow : Flow) (old new : List Point) (ks : List ℕ) (v r : ℕ) (f : LinearForm) → AreSame old new ks → All (λ k. Comes inner flow old k v r f) ks → All (λ k. Comes inner flow new k v r f) ks
+pub all_moved : (inner : List Level) (flow : Flow) (old new : List Point) (ks : List ℕ) (v r : ℕ) (f : LinearForm) → AreSame old new ks → All (λ k. Comes inner flow old k v r f) ks → All (λ k. Comes inner flow new k v r f) ks
 all_moved inner flow old new ks v r f same a i d l = moved inner flow old new (get_or ks i d) v r f (same (get_or ks i d) (at_of ks i d l)) (a i d l)
 
 met_moved : (inner : List Level) (flow : Flow) (old new : List Point) (ks : List ℕ) (v r : ℕ) (o : Option LinearForm) → AreSame old new ks → IsMet inner flow old ks v r o → IsMet inner flow new ks v r o

@@ -9,7 +9,7 @@ use Rattle.std.proofs.lemmas.List.Elements.{Contains-get_or}
 use Rattle.rv64_decode.specs.declared.instr.Instr.{Instr}
 use Rattle.linear_forms.specs.Forms.{LinearForm, stride, moving, pure}
 use Rattle.loop_data.specs.declared.classes.Classes.{Classes}
-use Rattle.loop_data.specs.declared.equations.Point.{Point}
+use Rattle.loop_data.specs.Points.{Point, no_forms, point_at}
 use Rattle.loop_data.specs.declared.flow.Flow.{Flow}
 use Rattle.loop_data.specs.declared.graph.Graph.{Graph}
 use Rattle.loop_data.specs.declared.shape.Level.{Level}
@@ -28,7 +28,7 @@ use Rattle.loop_data.proofs.Strides.{Without, without_after}
 use Rattle.loop_data.proofs.FlowEdges.{sources_forward, forward_sources, place_of_word, listed_in}
 use Rattle.loop_data.proofs.ValuePlaces.{none_beyond, some_source}
 use Rattle.register_equations.specs.Rows.{forms_in}
-use Rattle.register_equations.specs.States.{code_with, no_forms, point_at, past, IsKept, Comes, IsMet, IsHeaderForm, AreFormsAt, IsFormPlace}
+use Rattle.register_equations.specs.States.{code_with, past, IsKept, Comes, IsMet, IsHeaderForm, AreFormsAt, IsFormPlace}
 
 low_of : (r n : ℕ) → nat_lt r n ≡ true → r < n
 low_of r n e = grind (arith, nat_tests)

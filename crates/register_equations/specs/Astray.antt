@@ -7,7 +7,7 @@ use Rattle.linear_forms.specs.declared.location.Loc.{Loc}
 use Rattle.linear_forms.specs.Locations.{number_of, IsLocation}
 use Rattle.loop_data.specs.declared.classes.Class.TheVariants.{Induction}
 use Rattle.loop_data.specs.declared.classes.Classes.{Classes}
-use Rattle.loop_data.specs.declared.equations.Point.{Point}
+use Rattle.loop_data.specs.Points.{Point, point_at}
 use Rattle.loop_data.specs.declared.flow.Flow.{Flow}
 use Rattle.loop_data.specs.declared.shape.Level.{Level}
 use Rattle.loop_data.specs.Nests.{has}
@@ -16,7 +16,7 @@ use Rattle.loop_data.specs.Equations.{plus_constant}
 use Rattle.loop_data.specs.FormRows.{form_after}
 use Rattle.loop_data.specs.Lookups.{form_at, classes_of}
 use Rattle.register_equations.specs.Rows.{forms_in}
-use Rattle.register_equations.specs.States.{code_with, point_at}
+use Rattle.register_equations.specs.States.{code_with}
 
 -- the word of a point, where it is this instruction, which accesses this cell if any, writes the location with
 -- another form than this and the step

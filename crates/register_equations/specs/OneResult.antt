@@ -4,7 +4,7 @@ use Rattle.std.specs.List.{All}
 use Rattle.loop_data.specs.declared.classes.Classes.{Classes}
 use Rattle.loop_data.specs.declared.equations.Duty.{Duty}
 use Rattle.loop_data.specs.declared.equations.Equations.{Equations}
-use Rattle.loop_data.specs.declared.equations.Point.{Point}
+use Rattle.loop_data.specs.Points.{Point}
 use Rattle.loop_data.specs.declared.graph.Graph.{Graph}
 use Rattle.loop_data.specs.declared.shape.Level.{Level}
 use Rattle.loop_data.specs.Locations.{CellMap}

@@ -1,5 +1,5 @@
 -- What the pass over forms makes of the places of a body, one after the other.
-use Rattle.std.specs.Prelude.{ℕ, ◌≡◌, ◌≢◌, ◌<◌, ◌⊎◌, ◌↔◌, ◌∷◌, ◌++◌, false, List, [], length, map, Option, Some, None, pos, slice_index, slice_index_or, slice_set}
+use Rattle.std.specs.Prelude.{ℕ, ◌≡◌, ◌≢◌, ◌<◌, ◌⊎◌, ◌↔◌, ◌∷◌, ◌++◌, true, false, List, [], length, map, Option, Some, None, pos, slice_index, slice_index_or}
 use Rattle.std.specs.List.{All, Contains}
 use Rattle.std.specs.List.Sorted.{IsStrictlyIncreasing}
 use Rattle.rv64_decode.specs.declared.instr.Instr.{Instr}
@@ -8,7 +8,7 @@ use Rattle.loop_data.specs.declared.classes.Class.{Class}
 use Rattle.loop_data.specs.declared.classes.Classes.{Classes}
 use Rattle.loop_data.specs.declared.equations.Duty.{Duty}
 use Rattle.loop_data.specs.declared.flow.Flow.{Flow}
-use Rattle.loop_data.specs.declared.equations.Point.{Point}
+use Rattle.loop_data.specs.Points.{Point, point_at, form_in, with_forms}
 use Rattle.loop_data.specs.declared.shape.Level.{Level}
 use Rattle.loop_data.specs.declared.graph.Graph.{Graph}
 use Rattle.loop_data.specs.Nests.{Nest, has, Holds}
@@ -25,13 +25,6 @@ use Rattle.register_equations.specs.Rows.{forms_in}
 abbrev pub code_with : Option Instr → Option ℕ → LoopCode
 code_with i cell = record { instr = λ u. i; cells = record { cells = []; uses = λ u. cell } }
 
--- no location has a form
-abbrev pub no_forms : Point
-no_forms = record { at = 0; forms = [] }
-
-abbrev pub point_at : List Point → ℕ → Point
-point_at points k = slice_index_or points k no_forms
-
 -- the form of a location after the word at a place
 abbrev pub past : Flow → List Point → ℕ → ℕ → Option LinearForm
 past flow points k r =
@@ -42,6 +35,10 @@ past flow points k r =
 abbrev pub IsKept : ℕ → ℕ → LinearForm → Level → Type 0
 IsKept u v f l = Holds l u → has l.body v ≡ false → stride f l.depth ≡ pos 0
 
+-- the edge does not leave this loop
+abbrev pub IsInside : ℕ → ℕ → Level → Type 0
+IsInside u v l = Holds l u → has l.body v ≡ true
+
 -- the form stands at v after the word at a place
 pub record Comes (inner : List Level) (flow : Flow) (points : List Point) (k v r : ℕ) (f : LinearForm) : Type 0 where
   pub after : past flow points k r ≡ Some f
@@ -51,6 +48,19 @@ pub record Comes (inner : List Level) (flow : Flow) (points : List Point) (k v r
 abbrev pub IsMet : List Level → Flow → List Point → List ℕ → ℕ → ℕ → Option LinearForm → Type 0
 IsMet inner flow points sources v r o =
     (f : LinearForm) → (o ≡ Some f) ↔ All (λ k. Comes inner flow points k v r f) sources
+
+-- what is left of the form of a location at place p: the form, if it comes along all edges
+abbrev pub IsLeft : List Level → Flow → List Point → List ℕ → ℕ → ℕ → ℕ → Option LinearForm → Type 0
+IsLeft inner flow points sources p v r o =
+    (f : LinearForm) → (o ≡ Some f) ↔ ((form_in points p r ≡ Some f)
+    × All (λ k. Comes inner flow points k v r f) sources)
+
+-- the new points are the old ones with other forms at place p, of which P tells
+pub record AreSetBy (P : ℕ → Option LinearForm → Type 0) (p : ℕ) (old new : List Point) : Type 0 where
+  pub state : List (Option LinearForm)
+  pub count : length state ≡ 48
+  pub forms : (r : ℕ) → r < 48 → P r (forms_in state r)
+  pub is : new ≡ with_forms old p state
 
 -- no stride of this depth
 abbrev pub IsFree : ℕ → Option LinearForm → Type 0
@@ -93,7 +103,7 @@ pub record AreFormsSet (B : LoopCode) (levels inner : List Level) (root : Level)
   pub state : List (Option LinearForm)
   pub right : AreFormsAt B levels inner root classes flow old (row_at (rows flow.sources.items) p) (point_at old p).at
       state
-  pub is : new ≡ slice_set old p (record { at = (point_at old p).at; forms = state })
+  pub is : new ≡ with_forms old p state
 
 -- the points of the words of a nest, whose forms solve its equations
 pub record AreSolvedPoints (G : Graph) (C : CellMap) (levels : List Level) (classes : Classes) (points : List Point)

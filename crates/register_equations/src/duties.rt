@@ -1,27 +1,27 @@
 ghost use Rattle.std.specs.Prelude.{ℕ, ◌≡◌, ◌<◌, ◌≤◌, length, map, Some, None, OnOk, IfOk, slice_index};
 ghost use Rattle.std.specs.List.{All, Contains};
 ghost use Rattle.std.specs.List.Sorted.{IsStrictlyIncreasing};
-ghost use Rattle.loop_data.specs.declared.equations.Point.{Point};
+ghost use Rattle.loop_data.specs.Points.{Point, point_at};
 ghost use Rattle.loop_data.specs.declared.shape.Level.{Level};
 ghost use Rattle.loop_data.specs.Nests.{Holds};
 ghost use Rattle.loop_data.specs.Results.{IsInnermost, IsAround};
-ghost use Rattle.register_equations.specs.States.{owed_at, IsDutyOf, IsDutyAdded, AreDutiesTo, point_at};
+ghost use Rattle.register_equations.specs.States.{owed_at, IsDutyOf, IsDutyAdded, AreDutiesTo};
 
 use crate::rows::duty_of;
 use linear_forms::Form;
 use loop_data::nesting::{innermost, places_in};
-use loop_data::{Duty, Flow, Level, Point};
+use loop_data::{Duty, Flow, Level, Points};
 use std::alloc::{AllocError, Global};
 
 /// The form whose values have to be numbers of 32 bits at the word at a place.
-fn owed_at(flow: &Flow, points: &[Point], k: usize) -> Option<Form>
+fn owed_at(flow: &Flow, points: &Points, k: usize) -> Option<Form>
     requires within { k < length points.now }
     requires count { length flow.now.instrs.items ≡ length points.now }
     requires uses { length flow.now.uses.items ≡ length points.now }
     ensures { result ≡ owed_at flow.now points.now k }
 {
     match flow.instrs[k] {
-        Some(instr) => duty_of(instr, flow.uses[k], &points[k].forms),
+        Some(instr) => duty_of(instr, flow.uses[k], points, k),
         None => None,
     }
 }
@@ -50,19 +50,21 @@ fn duty_with(levels: &[Level], at: u64, form: Form) -> Duty
 /// Puts the duty of the word of a point at the end, if it owes a form.
 fn add_duty(
     levels: &[Level],
-    point: &Point,
+    points: &Points,
+    k: usize,
     owed: Option<Form>,
     duties: &mut Vec<Duty>,
 ) -> Result<(), AllocError>
     requires bodies { All (λ l. IsStrictlyIncreasing l.body) levels.now }
     requires few { length levels.now ≤ 4 }
     requires depths { (l : Level) → Contains levels.now l → l.depth < 3 }
-    requires held { (l : Level) × Contains levels.now l × Holds l point.now.at }
-    ensures { OnOk result (IsDutyAdded levels.now point.now owed duties.old.items duties.new.items) }
+    requires within { k < length points.now }
+    requires held { (l : Level) × Contains levels.now l × Holds l (point_at points.now k).at }
+    ensures { OnOk result (IsDutyAdded levels.now (point_at points.now k) owed duties.old.items duties.new.items) }
 {
     match owed {
         Some(form) => {
-            duties.push(duty_with(levels, point.at, form))?;
+            duties.push(duty_with(levels, points.at(k), form))?;
             Ok(())
         }
         None => Ok(()),
@@ -74,7 +76,7 @@ pub fn duties_of(
     alloc: Global,
     levels: &[Level],
     flow: &Flow,
-    points: &[Point],
+    points: &Points,
 ) -> Result<Vec<Duty>, AllocError>
     requires bodies { All (λ l. IsStrictlyIncreasing l.body) levels.now }
     requires few { length levels.now ≤ 4 }
@@ -89,7 +91,7 @@ pub fn duties_of(
     let mut duties = Vec::new(alloc);
     for i in 0..points.len() {
         let owed = owed_at(flow, points, i);
-        add_duty(levels, &points[i], owed, &mut duties)?;
+        add_duty(levels, points, i, owed, &mut duties)?;
     }
     Ok(duties)
 }

@@ -1,11 +1,13 @@
-ghost use Rattle.std.specs.Prelude.{ℕ, ◌≡◌, ◌≤◌, ◌^◌, ◌*ℤ◌, Option, Some, None, pos, ◌&&◌, if◌then◌else◌, true, false};
+ghost use Rattle.loop_data.specs.Points.{point_at, form_in};
+ghost use Rattle.std.specs.Prelude.{ℕ, ◌≡◌, ◌<◌, ◌≤◌, length, ◌^◌, ◌*ℤ◌, Option, Some, None, pos, ◌&&◌, if◌then◌else◌, true, false};
 ghost use Rattle.rv64_decode.specs.Row.{signed32};
 ghost use Rattle.linear_forms.specs.Forms.{LinearForm, limited, sum_of, difference, multiple, pure, word_of};
 ghost use Rattle.loop_data.specs.Facts.{short_of, signed_of};
 ghost use Rattle.loop_data.specs.FormRows.{form_read, form_sum, form_difference, form_multiple, form_shifted, form_product, is_pure, is_empty, is_factor, form_limited, form_short, form_owed, alu_form, imm_form, upper_form, cell_form, store_form, stored_form, alu_duty, imm_duty, store_duty, register_form, duty_by};
-ghost use Rattle.register_equations.specs.Rows.{forms_in, floating, at_constant, multiple_by, IsShortResult, IsFactor};
+ghost use Rattle.register_equations.specs.Rows.{floating, at_constant, multiple_by, IsShortResult, IsFactor};
 
 use linear_forms::{Form, Terms};
+use loop_data::Points;
 use rv64_decode::{AluOp, ImmOp, Instr, Reg, StoreOp, UpperOp};
 
 /// What an instruction on words of 32 bits makes of a form.
@@ -27,15 +29,16 @@ pub fn copied(form: &Option<Form>) -> Option<Form>
     }
 }
 
-/// The form that a register is read as: x0 is the constant 0.
-pub fn read(forms: &[Option<Form>; 48], register: Reg) -> Option<Form>
-    ensures { result ≡ form_read (forms_in forms.now) register }
+/// The form that a register is read as at the word of a point: x0 is the constant 0.
+pub fn read(points: &Points, k: usize, register: Reg) -> Option<Form>
+    requires { k < length points.now }
+    ensures { result ≡ form_read (form_in points.now k) register }
 {
     let r = register.number() as usize;
     if r == 0 {
         Form::pure(0)
     } else {
-        copied(&forms[r])
+        copied(points.form(k, r))
     }
 }
 
@@ -365,25 +368,29 @@ fn upper(op: UpperOp, at: u64, imm: i32) -> Option<Form>
 }
 
 /// The form of a cell, if there is one.
-fn cell_form(forms: &[Option<Form>; 48], cell: Option<u8>) -> Option<Form>
-    ensures { result ≡ cell_form cell (forms_in forms.now) }
+fn cell_form(points: &Points, k: usize, cell: Option<u8>) -> Option<Form>
+    requires place { k < length points.now }
+    requires count { length (point_at points.now k).forms ≡ 48 }
+    ensures { result ≡ cell_form cell (form_in points.now k) }
 {
     match cell {
-        Some(k) if k < 16 => copied(&forms[32 + k as usize]),
+        Some(c) if c < 16 => copied(points.form(k, 32 + c as usize)),
         _ => None,
     }
 }
 
-/// The form that an instruction at this address, which accesses this cell, if any, writes to its register. A load
-/// gives the form of the cell.
-pub fn register(at: u64, instr: Instr, cell: Option<u8>, forms: &[Option<Form>; 48]) -> Option<Form>
-    ensures { result ≡ register_form at instr cell (forms_in forms.now) }
+/// The form that the instruction of a point, which accesses this cell, if any, writes to its register. A load gives the
+/// form of the cell.
+pub fn register(instr: Instr, cell: Option<u8>, points: &Points, k: usize) -> Option<Form>
+    requires { k < length points.now }
+    ensures { result ≡ register_form (point_at points.now k).at instr cell (form_in points.now k) }
 {
+    let at = points.at(k);
     match instr {
-        Instr::Alu { op, rs1, rs2, .. } => alu(op, &read(forms, rs1), &read(forms, rs2)),
-        Instr::AluImm { op, rs1, imm, .. } => alu_imm(op, &read(forms, rs1), imm),
+        Instr::Alu { op, rs1, rs2, .. } => alu(op, &read(points, k, rs1), &read(points, k, rs2)),
+        Instr::AluImm { op, rs1, imm, .. } => alu_imm(op, &read(points, k, rs1), imm),
         Instr::Upper { op, imm, .. } => upper(op, at, imm),
-        Instr::Load { .. } => cell_form(forms, cell),
+        Instr::Load { .. } => cell_form(points, k, cell),
         _ => None,
     }
 }
@@ -409,38 +416,40 @@ fn store_owed(op: StoreOp, f: &Option<Form>) -> Option<Form>
     }
 }
 
-/// The form that an instruction writes to the cell that it accesses.
-pub fn stored(instr: Instr, forms: &[Option<Form>; 48]) -> Option<Form>
-    ensures { result ≡ stored_form instr (forms_in forms.now) }
+/// The form that an instruction writes to the cell that it accesses, out of the forms of a point.
+pub fn stored(instr: Instr, points: &Points, k: usize) -> Option<Form>
+    requires { k < length points.now }
+    ensures { result ≡ stored_form instr (form_in points.now k) }
 {
     match instr {
-        Instr::Store { op, rs2, .. } => store(op, read(forms, rs2)),
+        Instr::Store { op, rs2, .. } => store(op, read(points, k, rs2)),
         _ => None,
     }
 }
 
 /// The form that an instruction, which accesses this cell, if any, writes where its values have to be numbers of
-/// 32 bits.
-pub fn duty_of(instr: Instr, cell: Option<u8>, forms: &[Option<Form>; 48]) -> Option<Form>
-    ensures { result ≡ duty_by instr cell (forms_in forms.now) }
+/// 32 bits, out of the forms of a point.
+pub fn duty_of(instr: Instr, cell: Option<u8>, points: &Points, k: usize) -> Option<Form>
+    requires { k < length points.now }
+    ensures { result ≡ duty_by instr cell (form_in points.now k) }
 {
     match instr {
         Instr::Alu { op, rd, rs1, rs2 } => {
             if rd.number() == 0 {
                 None
             } else {
-                alu_owed(op, &read(forms, rs1), &read(forms, rs2))
+                alu_owed(op, &read(points, k, rs1), &read(points, k, rs2))
             }
         }
         Instr::AluImm { op, rd, rs1, imm } => {
             if rd.number() == 0 {
                 None
             } else {
-                alu_imm_owed(op, &read(forms, rs1), imm)
+                alu_imm_owed(op, &read(points, k, rs1), imm)
             }
         }
         Instr::Store { op, rs2, .. } => match cell {
-            Some(_) => store_owed(op, &read(forms, rs2)),
+            Some(_) => store_owed(op, &read(points, k, rs2)),
             None => None,
         },
         _ => None,

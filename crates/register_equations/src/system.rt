@@ -7,7 +7,7 @@ ghost use Rattle.loop_data.specs.Results.{AreEquations, AreSmallSteps};
 use crate::duties::duties_of;
 use crate::passes::solved_points;
 use crate::unconfirmed::unconfirmed;
-use loop_data::{Cells, Classes, Duties, Equations, Graph, LoopShape, Points, loop_flow};
+use loop_data::{Cells, Classes, Duties, Equations, Graph, LoopShape, loop_flow};
 use std::alloc::{AllocError, Global};
 
 /// The forms of the locations at the words of a listed loop with these cells, whose classes are these, what the words
@@ -28,10 +28,10 @@ pub fn solve(
     let levels = shape.levels.as_slice();
     let flow = loop_flow(alloc, graph, cells, levels, 0)?;
     let points = solved_points(alloc, graph, cells, levels, classes, &flow)?;
-    let duties = duties_of(alloc, levels, &flow, points.as_slice())?;
-    let unconfirmed = unconfirmed(levels, classes, &flow, points.as_slice());
+    let duties = duties_of(alloc, levels, &flow, &points)?;
+    let unconfirmed = unconfirmed(levels, classes, &flow, &points);
     Ok(Equations {
-        points: Points::new(points),
+        points,
         duties: Duties::new(duties),
         unconfirmed,
     })

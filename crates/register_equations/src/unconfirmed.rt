@@ -4,17 +4,18 @@ ghost use Rattle.std.specs.List.Sorted.{IsStrictlyIncreasing};
 ghost use Rattle.linear_forms.specs.Forms.{is_small};
 ghost use Rattle.linear_forms.specs.Locations.{number_of, IsLocation};
 ghost use Rattle.loop_data.specs.Equations.{plus_constant};
-ghost use Rattle.loop_data.specs.Lookups.{form_at};
+ghost use Rattle.loop_data.specs.Points.{point_at};
 ghost use Rattle.loop_data.specs.Results.{AreSmallSteps};
 ghost use Rattle.register_equations.specs.Astray.{IsOther, IsOtherAt, IsAstray, IsLeastAstray};
 
 use crate::headers::class_at;
-use crate::meets::{form_after, is_at};
-use crate::rows::copied;
+use crate::meets::form_after;
 use linear_forms::{Form, Loc};
 use loop_data::flow::is_in;
+use loop_data::lookups::form_at;
+use loop_data::same_forms::is_at;
 use loop_data::value_rows::instr_writes;
-use loop_data::{Class, Classes, Flow, Level, Point};
+use loop_data::{Class, Classes, Flow, Level, Points};
 use rv64_decode::Instr;
 
 /// Whether this is a form and a number more.
@@ -33,28 +34,25 @@ fn is_plus(found: &Option<Form>, form: &Form, step: i64) -> bool
 fn is_other(
     instr: &Option<Instr>,
     cell: Option<u8>,
-    point: &Point,
+    points: &Points,
+    k: usize,
     r: usize,
     form: &Form,
     step: i64,
 ) -> bool
+    requires within { k < length points.now }
     requires location { r < 48 }
     requires step { is_small step ≡ true }
-    ensures { IsTrue result ↔ IsOther instr.now cell r form.now step point.now }
+    ensures { IsTrue result ↔ IsOther instr.now cell r form.now step (point_at points.now k) }
 {
-    instr_writes(instr, cell, r)
-        && !is_plus(
-            &form_after(point.at, instr, cell, &point.forms, r),
-            form,
-            step,
-        )
+    instr_writes(instr, cell, r) && !is_plus(&form_after(instr, cell, points, k, r), form, step)
 }
 
 /// Whether the word at a place does, and is in a loop.
 fn is_other_at(
     flow: &Flow,
     level: &Level,
-    points: &[Point],
+    points: &Points,
     k: usize,
     r: usize,
     form: &Form,
@@ -68,13 +66,12 @@ fn is_other_at(
     requires step { is_small step ≡ true }
     ensures { IsTrue result ↔ IsOtherAt flow.now level.now.body points.now r form.now step k }
 {
-    let point = &points[k];
-    is_in(level.body.as_slice(), point.at)
-        && is_other(&flow.instrs[k], flow.uses[k], point, r, form, step)
+    is_other(&flow.instrs[k], flow.uses[k], points, k, r, form, step)
+        && is_in(level.body.as_slice(), points.at(k))
 }
 
 /// Whether a word of a loop does.
-fn has_other(flow: &Flow, level: &Level, points: &[Point], r: usize, form: &Form, step: i64) -> bool
+fn has_other(flow: &Flow, level: &Level, points: &Points, r: usize, form: &Form, step: i64) -> bool
     requires body { IsStrictlyIncreasing level.now.body }
     requires count { length flow.now.instrs.items ≡ length points.now }
     requires uses { length flow.now.uses.items ≡ length points.now }
@@ -93,25 +90,12 @@ fn has_other(flow: &Flow, level: &Level, points: &[Point], r: usize, form: &Form
     false
 }
 
-/// The form of a location at an address.
-fn form_of(points: &[Point], at: u64, r: usize) -> Option<Form>
-    requires { r < 48 }
-    ensures { result ≡ form_at points.now at r }
-{
-    for point in points {
-        if point.at == at {
-            return copied(&point.forms[r]);
-        }
-    }
-    None
-}
-
 /// Whether a loop has an induction that it writes with another form than its header's and the step.
 fn is_astray(
     levels: &[Level],
     classes: &Classes,
     flow: &Flow,
-    points: &[Point],
+    points: &Points,
     level: &Level,
     r: usize,
 ) -> bool
@@ -124,7 +108,7 @@ fn is_astray(
     ensures no { result ≡ false → ¬ IsAstray flow.now levels.now classes.now points.now r level.now }
 {
     match class_at(levels, classes, level.header, r) {
-        Some(Class::Induction(step)) => match form_of(points, level.header, r) {
+        Some(Class::Induction(step)) => match form_at(points, level.header, r) {
             Some(form) => has_other(flow, level, points, r, &form, step),
             None => false,
         },
@@ -133,7 +117,7 @@ fn is_astray(
 }
 
 /// Whether one of the loops has.
-fn some_astray(levels: &[Level], classes: &Classes, flow: &Flow, points: &[Point], r: usize) -> bool
+fn some_astray(levels: &[Level], classes: &Classes, flow: &Flow, points: &Points, r: usize) -> bool
     requires count { length flow.now.instrs.items ≡ length points.now }
     requires uses { length flow.now.uses.items ≡ length points.now }
     requires steps { AreSmallSteps classes.now }
@@ -161,12 +145,7 @@ fn location(r: usize) -> Loc
 }
 
 /// The least location of which one of the loops has such an induction.
-pub fn unconfirmed(
-    levels: &[Level],
-    classes: &Classes,
-    flow: &Flow,
-    points: &[Point],
-) -> Option<Loc>
+pub fn unconfirmed(levels: &[Level], classes: &Classes, flow: &Flow, points: &Points) -> Option<Loc>
     requires count { length flow.now.instrs.items ≡ length points.now }
     requires uses { length flow.now.uses.items ≡ length points.now }
     requires steps { AreSmallSteps classes.now }

@@ -12,7 +12,7 @@ use crate::relations::{approaches, is_signed, stay, turned};
 use linear_forms::Form;
 use loop_data::flow::{instr_at, is_in};
 use loop_data::lookups::form_read;
-use loop_data::{Equations, Graph, Level, LoopShape, Point, Relation, Trip};
+use loop_data::{Equations, Graph, Level, LoopShape, Points, Relation, Trip};
 use rv64_decode::Instr;
 
 /// That the turns of a loop that stay cannot be told from its exit branch.
@@ -108,7 +108,7 @@ pub fn trip_read(
 }
 
 /// The trip of a loop that is left at this instruction, where its locations have the forms at these points.
-fn trip_by(level: &Level, instr: Instr, points: &[Point]) -> Option<Trip>
+fn trip_by(level: &Level, instr: Instr, points: &Points) -> Option<Trip>
     requires { IsStrictlyIncreasing level.now.body }
     ensures { result ≡ trip_by level.now (Some instr) (form_at points.now level.now.exit) }
 {
@@ -125,7 +125,7 @@ fn trip_by(level: &Level, instr: Instr, points: &[Point]) -> Option<Trip>
 }
 
 /// The trip of a loop, where its locations have the forms at these points.
-fn trip_of(graph: &Graph, level: &Level, points: &[Point]) -> Option<Trip>
+fn trip_of(graph: &Graph, level: &Level, points: &Points) -> Option<Trip>
     requires graph { IsInOrder graph.now }
     requires body { IsStrictlyIncreasing level.now.body }
     ensures { result ≡ trip_of graph.now level.now (form_at points.now) }
@@ -156,7 +156,7 @@ pub fn trip(
 {
     let levels = shape.levels.as_slice();
     let level = &levels[level as usize];
-    match trip_of(graph, level, equations.points.as_slice()) {
+    match trip_of(graph, level, &equations.points) {
         Some(trip) => Ok(trip),
         None => Err(NoTrip { at: level.exit }),
     }

@@ -5,7 +5,8 @@ use crate::tests::samples::Program;
 use crate::tests::{Found, cells_in, nest_of};
 use induction::classes;
 use linear_forms::{Form, Loc};
-use loop_data::{Duty, Equations, Point};
+use loop_data::lookups::form_at;
+use loop_data::{Duty, Equations, Points};
 use register_equations::solve;
 use std::alloc::{AllocError, Global};
 use std::process::Abort;
@@ -256,33 +257,27 @@ pub fn is_form(form: &Form, shown: &Shown) -> bool {
     form.constant == shown.0 && form.terms.as_slice() == shown.1 && form.turns == shown.2
 }
 
-fn point_at(points: &[Point], at: u64) -> Option<&Point> {
-    for point in points {
-        if point.at == at {
-            return Some(point);
+fn has_point(points: &Points, at: u64) -> bool {
+    for k in 0..points.len() {
+        if points.at(k) == at {
+            return true;
         }
     }
-    None
+    false
 }
 
-fn is_row(points: &[Point], at: u64, register: usize, shown: &Shown) -> bool {
-    match point_at(points, at) {
-        Some(point) => match &point.forms[register % 48] {
-            Some(form) => is_form(form, shown),
-            None => false,
-        },
+fn is_row(points: &Points, at: u64, register: usize, shown: &Shown) -> bool {
+    match form_at(points, at, register % 48) {
+        Some(form) => is_form(&form, shown),
         None => false,
     }
 }
 
-fn is_formless(points: &[Point], at: u64, register: usize) -> bool {
-    match point_at(points, at) {
-        Some(point) => point.forms[register % 48].is_none(),
-        None => false,
-    }
+fn is_formless(points: &Points, at: u64, register: usize) -> bool {
+    has_point(points, at) && form_at(points, at, register % 48).is_none()
 }
 
-fn are_rows(points: &[Point], case: &Case) -> bool {
+fn are_rows(points: &Points, case: &Case) -> bool {
     for (at, register, shown) in case.rows {
         if !is_row(points, *at, *register, shown) {
             return false;
@@ -340,7 +335,7 @@ fn equations_of(alloc: Global, case: &Case) -> Result<Option<Equations>, AllocEr
 fn is_right(alloc: Global, case: &Case) -> Result<bool, AllocError> {
     match equations_of(alloc, case)? {
         Some(equations) => Ok(
-            are_rows(equations.points.as_slice(), case)
+            are_rows(&equations.points, case)
                 && are_owed(equations.duties.as_slice(), case.owed)
                 && equations.unconfirmed == case.unconfirmed,
         ),

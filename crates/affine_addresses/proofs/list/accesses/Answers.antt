@@ -41,10 +41,10 @@ returns-clause-accesses c =
     let body = c.as_slice-body.ensures ∙ ap (λ (l : Level). l.body) (first_is G ls nest c.index-levels-0.result) in
     let back = subst (λ (xs : List Level). (N : Nest) → IsNestOf G xs N → N.root ≡ nest.root) c.as_slice-levels.ensures (root_is G ls nest) in
     if_ok c.accesses_of.result
-    (λ (a : Accesses). AreAccesses ls c.as_slice-body.result.now (code_of G (cell_map c.args.cells.now)) (form_at c.as_slice.result.now) a.list.items)
+    (λ (a : Accesses). AreAccesses ls c.as_slice-body.result.now (code_of G (cell_map c.args.cells.now)) (form_at c.args.equations.now.points) a.list.items)
     (λ (a : Accesses). (N : Nest) → IsNestOf G c.args.shape.now.levels N → AreAccesses c.args.shape.now.levels N.root.body (code_of G (cell_map c.args.cells.now)) (form_at c.args.equations.now.points) a.list.items)
-    (λ (a : Accesses) h N is. carried (λ ls xs ps. AreAccesses ls xs (code_of G (cell_map c.args.cells.now)) (form_at ps) a.list.items) ls c.args.shape.now.levels c.as_slice-body.result.now N.root.body c.as_slice.result.now c.args.equations.now.points
-    c.as_slice-levels.ensures (body ∙ ap (λ (l : Level). l.body) (sym (back N is))) c.as_slice.ensures h)
+    (λ (a : Accesses) h N is. carried (λ ls xs. AreAccesses ls xs (code_of G (cell_map c.args.cells.now)) (form_at c.args.equations.now.points) a.list.items) ls c.args.shape.now.levels c.as_slice-body.result.now N.root.body
+    c.as_slice-levels.ensures (body ∙ ap (λ (l : Level). l.body) (sym (back N is))) h)
     c.accesses_of.ensures.accesses
 
 pub returns-clause-irregular : goal.returns-clause-irregular
@@ -55,8 +55,8 @@ returns-clause-irregular c =
     let body = c.as_slice-body.ensures ∙ ap (λ (l : Level). l.body) (first_is G ls nest c.index-levels-0.result) in
     let back = subst (λ (xs : List Level). (N : Nest) → IsNestOf G xs N → N.root ≡ nest.root) c.as_slice-levels.ensures (root_is G ls nest) in
     if_err c.accesses_of.result
-    (λ (e : Irregular). IsLeastIrregular c.as_slice-body.result.now (code_of G (cell_map c.args.cells.now)) (form_at c.as_slice.result.now) e.at)
+    (λ (e : Irregular). IsLeastIrregular c.as_slice-body.result.now (code_of G (cell_map c.args.cells.now)) (form_at c.args.equations.now.points) e.at)
     (λ (e : Irregular). (N : Nest) → IsNestOf G c.args.shape.now.levels N → IsLeastIrregular N.root.body (code_of G (cell_map c.args.cells.now)) (form_at c.args.equations.now.points) e.at)
-    (λ (e : Irregular) h N is. carried (λ ls xs ps. IsLeastIrregular xs (code_of G (cell_map c.args.cells.now)) (form_at ps) e.at) ls c.args.shape.now.levels c.as_slice-body.result.now N.root.body c.as_slice.result.now c.args.equations.now.points
-    c.as_slice-levels.ensures (body ∙ ap (λ (l : Level). l.body) (sym (back N is))) c.as_slice.ensures h)
+    (λ (e : Irregular) h N is. carried (λ ls xs. IsLeastIrregular xs (code_of G (cell_map c.args.cells.now)) (form_at c.args.equations.now.points) e.at) ls c.args.shape.now.levels c.as_slice-body.result.now N.root.body
+    c.as_slice-levels.ensures (body ∙ ap (λ (l : Level). l.body) (sym (back N is))) h)
     c.accesses_of.ensures.irregular

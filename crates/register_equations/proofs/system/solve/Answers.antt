@@ -1,6 +1,6 @@
 use Rattle.std.proofs.Common.{◌∙◌, List, length, sym, subst}
 use Rattle.loop_data.specs.declared.equations.Equations.{Equations}
-use Rattle.loop_data.specs.declared.equations.Point.{Point}
+use Rattle.loop_data.specs.Points.{Point}
 use Rattle.loop_data.specs.declared.equations.Duty.{Duty}
 use Rattle.loop_data.specs.declared.shape.Level.{Level}
 use Rattle.loop_data.specs.LoopWords.{AreNest}
@@ -36,8 +36,7 @@ duties_of-requires-clause-held c =
     let C = cell_map c.args.cells.now in
     let ls = c.as_slice-levels.result.now in
     let nest = subst (λ (xs : List Level). AreNest G xs) (sym c.as_slice-levels.ensures) c.requires.nest in
-    let solved = subst (λ (ps : List Point). AreSolvedPoints G C ls c.args.classes.now ps) (sym c.as_slice.ensures.value) c.in_ok-points.ensures in
-    held G ls nest C c.args.classes.now c.as_slice.result.now solved
+    held G ls nest C c.args.classes.now c.in_ok-points.points c.in_ok-points.ensures
 
 pub duties_of-requires-clause-ordered : goal.duties_of-requires-clause-ordered
 duties_of-requires-clause-ordered c =
@@ -45,8 +44,7 @@ duties_of-requires-clause-ordered c =
     let C = cell_map c.args.cells.now in
     let ls = c.as_slice-levels.result.now in
     let nest = subst (λ (xs : List Level). AreNest G xs) (sym c.as_slice-levels.ensures) c.requires.nest in
-    let solved = subst (λ (ps : List Point). AreSolvedPoints G C ls c.args.classes.now ps) (sym c.as_slice.ensures.value) c.in_ok-points.ensures in
-    rising G ls nest C c.args.classes.now c.as_slice.result.now solved
+    rising G ls nest C c.args.classes.now c.in_ok-points.points c.in_ok-points.ensures
 
 pub duties_of-requires-clause-count : goal.duties_of-requires-clause-count
 duties_of-requires-clause-count c =
@@ -54,8 +52,7 @@ duties_of-requires-clause-count c =
     let C = cell_map c.args.cells.now in
     let ls = c.as_slice-levels.result.now in
     let nest = subst (λ (xs : List Level). AreNest G xs) (sym c.as_slice-levels.ensures) c.requires.nest in
-    let solved = subst (λ (ps : List Point). AreSolvedPoints G C ls c.args.classes.now ps) (sym c.as_slice.ensures.value) c.in_ok-points.ensures in
-    instrs_fit G ls nest C c.args.classes.now c.as_slice.result.now solved c.in_ok-flow.flow (flow_of_root G ls nest C c.in_ok-flow.flow c.in_ok-flow.ensures)
+    instrs_fit G ls nest C c.args.classes.now c.in_ok-points.points c.in_ok-points.ensures c.in_ok-flow.flow (flow_of_root G ls nest C c.in_ok-flow.flow c.in_ok-flow.ensures)
 
 pub duties_of-requires-clause-uses : goal.duties_of-requires-clause-uses
 duties_of-requires-clause-uses c =
@@ -63,8 +60,7 @@ duties_of-requires-clause-uses c =
     let C = cell_map c.args.cells.now in
     let ls = c.as_slice-levels.result.now in
     let nest = subst (λ (xs : List Level). AreNest G xs) (sym c.as_slice-levels.ensures) c.requires.nest in
-    let solved = subst (λ (ps : List Point). AreSolvedPoints G C ls c.args.classes.now ps) (sym c.as_slice.ensures.value) c.in_ok-points.ensures in
-    uses_fit G ls nest C c.args.classes.now c.as_slice.result.now solved c.in_ok-flow.flow (flow_of_root G ls nest C c.in_ok-flow.flow c.in_ok-flow.ensures)
+    uses_fit G ls nest C c.args.classes.now c.in_ok-points.points c.in_ok-points.ensures c.in_ok-flow.flow (flow_of_root G ls nest C c.in_ok-flow.flow c.in_ok-flow.ensures)
 
 pub unconfirmed-unconfirmed-requires-clause-count : goal.unconfirmed-unconfirmed-requires-clause-count
 unconfirmed-unconfirmed-requires-clause-count c =
@@ -72,8 +68,7 @@ unconfirmed-unconfirmed-requires-clause-count c =
     let C = cell_map c.args.cells.now in
     let ls = c.as_slice-levels.result.now in
     let nest = subst (λ (xs : List Level). AreNest G xs) (sym c.as_slice-levels.ensures) c.requires.nest in
-    let solved = subst (λ (ps : List Point). AreSolvedPoints G C ls c.args.classes.now ps) (sym c.as_slice-2.ensures.value) c.in_ok-points.ensures in
-    instrs_fit G ls nest C c.args.classes.now c.as_slice-2.result.now solved c.in_ok-flow.flow (flow_of_root G ls nest C c.in_ok-flow.flow c.in_ok-flow.ensures)
+    instrs_fit G ls nest C c.args.classes.now c.in_ok-points.points c.in_ok-points.ensures c.in_ok-flow.flow (flow_of_root G ls nest C c.in_ok-flow.flow c.in_ok-flow.ensures)
 
 pub unconfirmed-unconfirmed-requires-clause-uses : goal.unconfirmed-unconfirmed-requires-clause-uses
 unconfirmed-unconfirmed-requires-clause-uses c =
@@ -81,8 +76,7 @@ unconfirmed-unconfirmed-requires-clause-uses c =
     let C = cell_map c.args.cells.now in
     let ls = c.as_slice-levels.result.now in
     let nest = subst (λ (xs : List Level). AreNest G xs) (sym c.as_slice-levels.ensures) c.requires.nest in
-    let solved = subst (λ (ps : List Point). AreSolvedPoints G C ls c.args.classes.now ps) (sym c.as_slice-2.ensures.value) c.in_ok-points.ensures in
-    uses_fit G ls nest C c.args.classes.now c.as_slice-2.result.now solved c.in_ok-flow.flow (flow_of_root G ls nest C c.in_ok-flow.flow c.in_ok-flow.ensures)
+    uses_fit G ls nest C c.args.classes.now c.in_ok-points.points c.in_ok-points.ensures c.in_ok-flow.flow (flow_of_root G ls nest C c.in_ok-flow.flow c.in_ok-flow.ensures)
 
 pub returns : goal.returns
 returns c =
@@ -91,11 +85,8 @@ returns c =
     let ls = c.as_slice-levels.result.now in
     let classes = c.args.classes.now in
     let nest = subst (λ (xs : List Level). AreNest G xs) (sym c.as_slice-levels.ensures) c.requires.nest in
-    let solved = subst (λ (ps : List Point). AreSolvedPoints G C ls classes ps) (sym c.new.ensures) c.in_ok-points.ensures in
-    let points = c.as_slice.ensures.value ∙ sym c.new.ensures in
-    let again = c.as_slice-2.ensures.value ∙ sym c.new.ensures in
-    let duties = subst (λ (ds : List Duty). AreDutiesTo c.in_ok-flow.flow ls c.new.result (length c.new.result) ds) (sym c.new-2.ensures) (subst (λ (ps : List Point). AreDutiesTo c.in_ok-flow.flow ls ps (length ps) c.in_ok-duties.duties.items) points c.in_ok-duties.ensures) in
-    let astray = subst (λ (ps : List Point). IsLeastAstray c.in_ok-flow.flow ls classes ps c.unconfirmed-unconfirmed.result) again c.unconfirmed-unconfirmed.ensures in
-    let e : Equations = record { points = c.new.result; duties = c.new-2.result; unconfirmed = c.unconfirmed-unconfirmed.result } in
+    let points = c.in_ok-points.points in
+    let duties = subst (λ (ds : List Duty). AreDutiesTo c.in_ok-flow.flow ls points (length points) ds) (sym c.new.ensures) c.in_ok-duties.ensures in
+    let e : Equations = record { points = points; duties = c.new.result; unconfirmed = c.unconfirmed-unconfirmed.result } in
     subst (λ (xs : List Level). AreEquations G xs C classes e) c.as_slice-levels.ensures
-    (equations_right G C (few_of c.args.cells.now c.requires.cells) ls nest classes c.in_ok-flow.flow (flow_of_root G ls nest C c.in_ok-flow.flow c.in_ok-flow.ensures) e solved duties astray)
+    (equations_right G C (few_of c.args.cells.now c.requires.cells) ls nest classes c.in_ok-flow.flow (flow_of_root G ls nest C c.in_ok-flow.flow c.in_ok-flow.ensures) e c.in_ok-points.ensures duties c.unconfirmed-unconfirmed.ensures)

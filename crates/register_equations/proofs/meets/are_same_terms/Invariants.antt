@@ -1,6 +1,0 @@
-use Rattle.std.proofs.Common.{◌≡◌, take}
-use Rattle.linear_forms.specs.Locations.{terms_of}
-use Rattle.register_equations.proofs.meets.are_same_terms.Given as goal
-
-abbrev pub invariant-loop-i : goal.invariant-loop-i
-invariant-loop-i l = terms_of (take l.i l.ts) ≡ terms_of (take l.i l.us)
