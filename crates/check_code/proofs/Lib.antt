@@ -3,3 +3,11 @@ pub mod Values
 pub mod Runs
 pub mod Appends
 pub mod Asked
+pub mod States
+pub mod Extents
+pub mod AccessTests
+pub mod MeetTests
+pub mod FourTests
+pub mod PairTests
+pub mod Decided
+pub mod Joins

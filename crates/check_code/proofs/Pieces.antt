@@ -166,7 +166,7 @@ need_law w p f g op a b has on off =
 signed_back : (v : ℤ) → IsShort v → cast_signed w64 (bits v) ≡ v
 signed_back v h = let a = h.0 in let b = h.1 in omega (arith, ints, a, b)
 
-low_short : (n : ℕ) → n < 2 ^ 31 → IsShort (pos n)
+pub low_short : (n : ℕ) → n < 2 ^ 31 → IsShort (pos n)
 low_short n h = (omega (arith, ints), omega (arith, ints))
 
 -- LI where the register holds something already

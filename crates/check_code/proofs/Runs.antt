@@ -36,7 +36,7 @@ use Rattle.check_code.specs.Laws.{nothing, only, with_helpers, last_in, start, H
 use Rattle.check_code.proofs.Pieces.{Target, three, added, inside, li_law, bring_law, aimed_bring_is, form_law, span_law, maybe_span, as_three, based_law, need_law, areas_law, areas_length}
 use Rattle.check_code.proofs.Values.{bits_word, constant_short, form_terms, start_alike, added_alike, added_below, fallen_alike, risen_alike, either_below, regroup, more_alike}
 
-twice : (t : Bool) (x : ℕ) → cond t 0 x ≡ cond t 0 (cond t 0 x)
+pub twice : (t : Bool) (x : ℕ) → cond t 0 x ≡ cond t 0 (cond t 0 x)
 twice true x = refl
 twice false x = refl
 
@@ -73,7 +73,7 @@ work_low r h = grind (arith, nat_tests)
 work_nonzero : (r : ℕ) → is_work r ≡ true → r ≢ 0
 work_nonzero r h e = let t : is_work 0 ≡ true = subst (λ k. is_work k ≡ true) e h in cc
 
-both_ways : (t : Bool) → t ≡ true → t ≡ false → ⊥
+pub both_ways : (t : Bool) → t ≡ true → t ≡ false → ⊥
 both_ways true a b = cc
 both_ways false a b = cc
 
@@ -89,7 +89,7 @@ held_below p h loc None is = by_test (loc == 0)
     by_test false = is.registers.below loc
 held_below p h loc (Some slot) is = is.slots.below slot
 
-all_known : (p : ℕ) (h : Hart) → IsHartAt p h → Knows (λ loc. true) (held h) (register h.regs) (slice_index h.slots)
+pub all_known : (p : ℕ) (h : Hart) → IsHartAt p h → Knows (λ loc. true) (held h) (register h.regs) (slice_index h.slots)
 all_known p h is = record { each = λ loc k. held_seen h loc (slot_of loc); small = λ loc. held_below p h loc (slot_of loc) is }
 
 -- registers after a write of one
@@ -129,7 +129,7 @@ location_runs code to p r loc h short near nonzero low has is =
     bring_law (world_of code s to n h goal) (λ loc. true) (held h) p f (slice_index h.slots) r loc (all_known p h is) refl first
     (next (put f r (held h loc)) (put_value f r (held h loc) z) (λ k l t. put_kept f r (held h loc) k t)))
 
-sum_below : (e : ℕ → ℕ) (f : LinearForm) → IsForm f → value_of e f.constant f.terms < 2 ^ 64
+pub sum_below : (e : ℕ → ℕ) (f : LinearForm) → IsForm f → value_of e f.constant f.terms < 2 ^ 64
 sum_below e f h = below_from f.terms (bits f.constant) (bits_below f.constant (constant_short f.constant h.bounded.constant))
   where
     below_from : (ts : List EntryTerm) (n : ℕ) → n < 2 ^ 64 → sum_from e ts n < 2 ^ 64
@@ -161,7 +161,7 @@ span_runs code to p r slot by h short near work fits has is =
     (λ a b. next (three f r a b v) (three_value f r a b v t ∙ same) (λ k l u. three_kept f r a b v k u))))
 
 -- three spans of a form, each of which may be left out, and what follows
-spans_law : (w : World) (f g : ℕ → ℕ) (r : ℕ) → Target r → (x y z : ℤ) (i j k : ℕ) (s t u : Bool) (rest : List XInstr) (p a b n : ℕ) → IsShort x → IsShort y → IsShort z
+pub spans_law : (w : World) (f g : ℕ → ℕ) (r : ℕ) → Target r → (x y z : ℤ) (i j k : ℕ) (s t u : Bool) (rest : List XInstr) (p a b n : ℕ) → IsShort x → IsShort y → IsShort z
     → (let c1 = cond s (span_code r x i) [] in let c2 = cond t (span_code r y j) [] in let c3 = cond u (span_code r z k) [] in
     let n1 = cond s (added n x (g i)) n in let n2 = cond t (added n1 y (g j)) n1 in let n3 = cond u (added n2 z (g k)) n2 in
     Stands w p (c1 ++ (c2 ++ (c3 ++ rest)))
@@ -182,17 +182,17 @@ spans_law w f g r target x y z i j k s t u rest p a b n sx sy sz has next =
     maybe_span w f g r target z k u p2 a2 b2 n2 sz (stands_front w p2 c3 rest h2) (λ a3 b3.
     next a3 b3 (stands_back w p2 c3 rest h2))))
 
-far_place : (p : ℕ) (c0 c1 c2 c3 : List XInstr) → behind (behind (behind (behind p c0) c1) c2) c3 ≡ behind p (c0 ++ (c1 ++ (c2 ++ c3)))
+pub far_place : (p : ℕ) (c0 c1 c2 c3 : List XInstr) → behind (behind (behind (behind p c0) c1) c2) c3 ≡ behind p (c0 ++ (c1 ++ (c2 ++ c3)))
 far_place p c0 c1 c2 c3 =
     sym (behind-append p c0 (c1 ++ (c2 ++ c3)) ∙ behind-append (behind p c0) c1 (c2 ++ c3) ∙ behind-append (behind (behind p c0) c1) c2 c3)
 
 -- the strides of a form have room in an instruction
-record AreStrides (f : LinearForm) : Type 0 where
+pub record AreStrides (f : LinearForm) : Type 0 where
   pub first : IsShort f.first
   pub second : IsShort f.second
   pub third : IsShort f.third
 
-strides_of : (f : LinearForm) → IsForm f → AreStrides f
+pub strides_of : (f : LinearForm) → IsForm f → AreStrides f
 strides_of f h = record { first = small_short f.first h.bounded.first; second = small_short f.second h.bounded.second; third = small_short f.third h.bounded.third }
 
 low_same : (f : LinearForm) (h : Hart) (slots : List ℕ) → IsForm f
@@ -338,7 +338,7 @@ inside_is permission (b ∷ bs) lo hi = by_flag (flags_permit permission b.2) (i
         ∙ ap (λ x. int_le (pos b.0) (signed64 lo) && int_le (signed64 hi) (pos b.1) || x) rest
     by_flag false rest = rest
 
-bounds_is : (permission : Permission) (bs : List Bounds) (lo hi : ℕ) → inside (permitted permission bs) lo hi ≡ in_bounds bs permission (signed64 lo, signed64 hi)
+pub bounds_is : (permission : Permission) (bs : List Bounds) (lo hi : ℕ) → inside (permitted permission bs) lo hi ≡ in_bounds bs permission (signed64 lo, signed64 hi)
 unfolding in_bounds
 bounds_is permission bs lo hi = inside_is permission bs lo hi
 
@@ -350,7 +350,7 @@ fewer permission (b ∷ bs) = by_flag (flags_permit permission b.2) (fewer permi
     by_flag true rest = omega (arith, rest)
     by_flag false rest = omega (arith, rest)
 
-low_bounds : (permission : Permission) (bs : List Bounds) → AreLow bs → AreLow (permitted permission bs)
+pub low_bounds : (permission : Permission) (bs : List Bounds) → AreLow bs → AreLow (permitted permission bs)
 low_bounds permission [] h = tt
 low_bounds permission (b ∷ bs) h = by_flag (flags_permit permission b.2) (low_bounds permission bs h.2)
   where

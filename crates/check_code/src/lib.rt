@@ -1,9 +1,14 @@
 //! The words that a loop's check is written as, piece by piece, and what each piece does where one hart runs it.
 #![tactic(auto)]
 
+pub mod accesses;
 mod laws;
 pub mod macros;
+mod pair_laws;
+pub mod pairs;
 pub mod ranges;
+mod rounds;
+mod steps;
 #[cfg(test)]
 mod tests;
 
@@ -12,3 +17,4 @@ pub use laws::{
     greatest_values_are_worked_out, least_values_are_worked_out, locations_are_brought,
     numbers_are_made, spans_are_added,
 };
+pub use pair_laws::{accesses_are_kept_off_cells, accesses_are_tested, pairs_are_tested};
