@@ -11,3 +11,9 @@ pub mod FourTests
 pub mod PairTests
 pub mod Decided
 pub mod Joins
+pub mod TripRuns
+pub mod TripTruths
+pub mod TripAppends
+pub mod DutyRuns
+pub mod DutyAppends
+pub mod Placed

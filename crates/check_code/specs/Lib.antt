@@ -5,3 +5,7 @@ pub mod AccessCode
 pub mod MeetCode
 pub mod PairCode
 pub mod AccessLaws
+pub mod TurnCode
+pub mod TurnLaws
+pub mod DutyCode
+pub mod DutyLaws

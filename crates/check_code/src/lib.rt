@@ -2,8 +2,10 @@
 #![tactic(auto)]
 
 pub mod accesses;
+pub mod duties;
 mod laws;
 pub mod macros;
+mod numbered;
 mod pair_laws;
 pub mod pairs;
 pub mod ranges;
@@ -11,6 +13,10 @@ mod rounds;
 mod steps;
 #[cfg(test)]
 mod tests;
+mod turn_laws;
+#[cfg(test)]
+mod turn_tests;
+pub mod turns;
 
 pub use laws::{
     a_branch_is_needed, areas_are_tried, cells_are_addressed, forms_are_worked_out,
@@ -18,3 +24,4 @@ pub use laws::{
     numbers_are_made, spans_are_added,
 };
 pub use pair_laws::{accesses_are_kept_off_cells, accesses_are_tested, pairs_are_tested};
+pub use turn_laws::{duties_are_tested, passes_are_told, turns_are_told};

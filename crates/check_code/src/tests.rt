@@ -50,7 +50,7 @@ impl Words for Nowhere {
 
 const BASE: u64 = 0x6000_0000;
 
-fn reg(number: u8) -> Reg {
+pub(crate) fn reg(number: u8) -> Reg {
     Reg::new(number % 32)
 }
 
@@ -66,7 +66,7 @@ fn step(word: u32, pc: u64, regs: &mut Regs, slots: &mut [u64; 32]) -> Option<u6
 }
 
 // The place at which a run from the first word leaves the code.
-fn run(code: &[u32], regs: &mut Regs, slots: &mut [u64; 32]) -> Option<u64> {
+pub(crate) fn run(code: &[u32], regs: &mut Regs, slots: &mut [u64; 32]) -> Option<u64> {
     let mut pc = BASE;
     for _ in 0..200 {
         if pc < BASE {
@@ -85,7 +85,7 @@ fn run(code: &[u32], regs: &mut Regs, slots: &mut [u64; 32]) -> Option<u64> {
 }
 
 // x8 is 100, x10 is 1000, and each other register its number; slot s is 10 s.
-fn entry() -> (Regs, [u64; 32]) {
+pub(crate) fn entry() -> (Regs, [u64; 32]) {
     let mut regs = Regs::new();
     let mut slots = [0; 32];
     for k in 0..32u8 {
