@@ -17,3 +17,13 @@ pub mod TripAppends
 pub mod DutyRuns
 pub mod DutyAppends
 pub mod Placed
+pub mod Loads
+pub mod CellTests
+pub mod CellAppends
+pub mod Joined
+pub mod Fitting
+pub mod Arrivals
+pub mod Whole
+pub mod Answered
+pub mod Emitted
+pub mod Rooms

@@ -9,3 +9,7 @@ pub mod TurnCode
 pub mod TurnLaws
 pub mod DutyCode
 pub mod DutyLaws
+pub mod CellCode
+pub mod CheckCode
+pub mod Checkable
+pub mod CheckLaws

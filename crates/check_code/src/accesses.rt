@@ -56,7 +56,7 @@ fn push_zero(code: &mut Vec<u32>) -> Result<(), AllocError>
 }
 
 /// Appends what goes on where x5 is below 2^31. It works with x6.
-fn push_below(code: &mut Vec<u32>) -> Result<(), AllocError>
+pub(crate) fn push_below(code: &mut Vec<u32>) -> Result<(), AllocError>
     ensures { IfOk result (λ u. Appended code.old.items code.new.items below_code) }
 {
     push_immediate(code, ImmOp::Srli, 6, 5, 31)?;
@@ -78,7 +78,7 @@ fn mask_of(width: Width) -> i32
 }
 
 /// Appends what goes on where x5 is a multiple of a width. It works with x6.
-fn push_aligned(code: &mut Vec<u32>, width: Width) -> Result<(), AllocError>
+pub(crate) fn push_aligned(code: &mut Vec<u32>, width: Width) -> Result<(), AllocError>
     ensures { IfOk result (λ u. Appended code.old.items code.new.items (aligned_code width)) }
 {
     push_immediate(code, ImmOp::Andi, 6, 5, mask_of(width))?;

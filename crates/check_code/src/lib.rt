@@ -2,7 +2,9 @@
 #![tactic(auto)]
 
 pub mod accesses;
+pub mod cells;
 pub mod duties;
+mod emit;
 mod laws;
 pub mod macros;
 mod numbered;
@@ -18,6 +20,7 @@ mod turn_laws;
 mod turn_tests;
 pub mod turns;
 
+pub use emit::{areas_have_room, emit_check};
 pub use laws::{
     a_branch_is_needed, areas_are_tried, cells_are_addressed, forms_are_worked_out,
     greatest_values_are_worked_out, least_values_are_worked_out, locations_are_brought,
