@@ -61,32 +61,42 @@ below_of v h = grind (arith, nat_tests)
 
 -- LO and HI of an access, from any state
 module _ (w : World) (known : ℕ → Bool) (e : ℕ → ℕ) where
-  pub access_lowered : (r : ℕ) → Target r → (a : Access) (b : State) → IsForm a.form → AreRoundsKnown known a.form a.around → ((f g : ℕ → ℕ) → b f g → Knows known e f g)
-      → (after : State) → ((f g : ℕ → ℕ) (a' b' : ℕ) → b f g → after (three f r a' b' (least_word e a.form a.around)) g) → IsTest w (Known known e) b after (access_low r a) true
+  pub access_lowered : (r : ℕ) → Target r → (a : Access) (b : State) → IsForm a.form → AreRoundsKnown known a.form a.around
+      → ((f g : ℕ → ℕ) → b f g → Knows known e f g)
+      → (after : State) → ((f g : ℕ → ℕ) (a' b' : ℕ) → b f g → after (three f r a' b' (least_word e a.form a.around)) g)
+      → IsTest w (Known known e) b after (access_low r a) true
   access_lowered r t a b fine has knows after leads =
-      lowered w known e r t (own_form a.form a.around) (own_slots a.around) (least_word e a.form a.around) b after (own_is_form a.form a.around fine) (terms_known known a.form fine has.terms) knows
+      lowered w known e r t (own_form a.form a.around) (own_slots a.around) (least_word e a.form a.around) b after
+      (own_is_form a.form a.around fine) (terms_known known a.form fine has.terms) knows
       (λ f g x. own_low known e f g a.form a.around fine (knows f g x) has) leads
 
-  pub access_raised : (r : ℕ) → Target r → (a : Access) (b : State) → IsForm a.form → AreRoundsKnown known a.form a.around → ((f g : ℕ → ℕ) → b f g → Knows known e f g)
-      → (after : State) → ((f g : ℕ → ℕ) (a' b' n : ℕ) → b f g → after (put (three f r a' b' n) r (end_word e a.form a.around (bytes_of a.width))) g) → IsTest w (Known known e) b after (access_end r a) true
+  pub access_raised : (r : ℕ) → Target r → (a : Access) (b : State) → IsForm a.form → AreRoundsKnown known a.form a.around
+      → ((f g : ℕ → ℕ) → b f g → Knows known e f g)
+      → (after : State)
+      → ((f g : ℕ → ℕ) (a' b' n : ℕ) → b f g → after (put (three f r a' b' n) r (end_word e a.form a.around (bytes_of a.width))) g)
+      → IsTest w (Known known e) b after (access_end r a) true
   access_raised r t a b fine has knows after leads =
       let v = word_of (first_value e a.form +ℤ highest_shift a.form (last_at a.around (last_from e))) in
-      raised w known e r t (own_form a.form a.around) (own_slots a.around) (bytes_of a.width) v b after (own_is_form a.form a.around fine) (terms_known known a.form fine has.terms) knows
+      raised w known e r t (own_form a.form a.around) (own_slots a.around) (bytes_of a.width) v b after (own_is_form a.form a.around fine)
+      (terms_known known a.form fine has.terms) knows
       (λ f g x. own_raised known e f g a.form a.around fine (knows f g x) has)
       (λ f g a' b' x. subst (λ n. after (put (three f r a' b' v) r n) g) (sym (end_is (first_value e a.form +ℤ highest_shift a.form (last_at a.around (last_from e))) (bytes_of a.width))) (leads f g a' b' v x))
 
   -- AREAS
-  areas_test : (areas : List Bounds) (lo hi : ℕ) → length (areas_code areas) < 2 ^ 19 → AreLow areas → IsTest w (Known known e) (With 6 hi (With 5 lo (Known known e))) (Known known e) (areas_code areas) (inside areas lo hi)
+  areas_test : (areas : List Bounds) (lo hi : ℕ) → length (areas_code areas) < 2 ^ 19 → AreLow areas
+      → IsTest w (Known known e) (With 6 hi (With 5 lo (Known known e))) (Known known e) (areas_code areas) (inside areas lo hi)
   areas_test areas lo hi short low = record {
     by = λ p f g x has on off.
-        let same : inside areas (read f 5) (read f 6) ≡ inside areas lo hi = ap (λ n. inside areas n (read f 6)) x.1.0 ∙ ap (inside areas lo) x.0 in
+        let same : inside areas (read f 5) (read f 6) ≡ inside areas lo hi = ap (λ n. inside areas n (read f 6)) x.1.0 ∙ ap
+        (inside areas lo) x.0 in
         areas_law w f g areas p short low has
         (λ y a. on (sym same ∙ y) (put f 7 a) g (knows_put known e f g 7 a (record { slot = 18; is = refl }) x.1.1))
         (λ y a. off (sym same ∙ y) (put f 7 a) g (knows_put known e f g 7 a (record { slot = 18; is = refl }) x.1.1));
   }
 
   -- the test in words
-  access_words : (areas : List Bounds) (a : Access) → IsForm a.form → AreRoundsKnown known a.form a.around → length (areas_code (permitted (access_permission a) areas)) < 2 ^ 19 → AreLow (permitted (access_permission a) areas)
+  access_words : (areas : List Bounds) (a : Access) → IsForm a.form → AreRoundsKnown known a.form a.around
+      → length (areas_code (permitted (access_permission a) areas)) < 2 ^ 19 → AreLow (permitted (access_permission a) areas)
       → (let v = value_of e a.form.constant a.form.terms in
       IsTest w (Known known e) (Known known e) (Known known e) (access_code areas a)
       ((alu_imm Srli v (pos 31) == 0) && ((alu_imm Andi v (pos (bytes_of a.width - 1)) == 0) && inside (permitted (access_permission a) areas) (least_word e a.form a.around) (end_word e a.form a.around (bytes_of a.width)))))
@@ -151,11 +161,13 @@ access_is areas e a fine low =
     ∙ under (nat_lt u (2 ^ 31)) _ _ (λ h. ap (λ t. (u % bytes_of a.width == 0) && t)
     (bounds_is k areas lo hi ∙ ap (λ x. in_bounds areas k (x, signed64 hi)) (least_signed e a fine low (below_of u h)) ∙ ap (λ x. in_bounds areas k (r.0, x)) (end_signed e a fine low (below_of u h))))
 
-few_words : (permission : Permission) (areas : List Bounds) → length areas < 2 ^ 16 → length (areas_code (permitted permission areas)) < 2 ^ 19
+few_words : (permission : Permission) (areas : List Bounds) → length areas < 2 ^ 16
+    → length (areas_code (permitted permission areas)) < 2 ^ 19
 few_words permission areas few = omega (arith, areas_length (permitted permission areas), fewer permission areas, few)
 
 -- the words of an access go on where it fits, and to the open target where it does not
-pub access_law : (w : World) (known : ℕ → Bool) (e : ℕ → ℕ) (areas : List Bounds) (a : Access) → IsForm a.form → AreRoundsKnown known a.form a.around → length areas < 2 ^ 16 → AreLow areas → All (λ n. n < 2 ^ 31) (last_from e)
+pub access_law : (w : World) (known : ℕ → Bool) (e : ℕ → ℕ) (areas : List Bounds) (a : Access) → IsForm a.form
+    → AreRoundsKnown known a.form a.around → length areas < 2 ^ 16 → AreLow areas → All (λ n. n < 2 ^ 31) (last_from e)
     → IsTest w (Known known e) (Known known e) (Known known e) (access_code areas a) (access_fits (in_bounds areas) (words e) (last_from e) a)
 access_law w known e areas a fine has few low lasts =
     same_test w (Known known e) (Known known e) (Known known e) (access_code areas a) _ _ (access_is areas e a fine lasts)

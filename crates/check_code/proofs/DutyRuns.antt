@@ -41,7 +41,9 @@ duty_words e f around =
 
 module _ (w : World) (known : ℕ → Bool) (e : ℕ → ℕ) where
   -- the numbers from x5 to x6
-  shorts_law : (lo hi : ℕ) → IsTest w (Known known e) (With 6 hi (With 5 lo (Known known e))) (Known known e) shorts_code (taken Bge lo (bits least_short) && taken Bge (bits greatest_short) hi)
+  shorts_law : (lo hi : ℕ)
+      → IsTest w (Known known e) (With 6 hi (With 5 lo (Known known e))) (Known known e) shorts_code
+      (taken Bge lo (bits least_short) && taken Bge (bits greatest_short) hi)
   shorts_law lo hi =
       let z = Known known e in
       let t1 = taken Bge lo (bits least_short) in
@@ -52,17 +54,24 @@ module _ (w : World) (known : ℕ → Bool) (e : ℕ → ℕ) where
       let one = number_code 7 least_short in
       let two = number_code 7 greatest_short in
       both w z s5 s6 z one (need_code Bge 5 7 ++ (two ++ need_code Bge 7 6)) true (t1 && t2)
-      (temps_test w z s5 s6 one refl (λ f g x. (parts least_short (omega (arith, ints), omega (arith, ints)), (x.0, (x.1.0, knows_temps known e one f g refl x.1.1)))))
+      (temps_test w z s5 s6 one refl
+      (λ f g x. (parts least_short (omega (arith, ints), omega (arith, ints)), (x.0, (x.1.0, knows_temps known e one f g refl x.1.1)))))
       (λ h. both w z s6 s6 z (need_code Bge 5 7) (two ++ need_code Bge 7 6) t1 t2
       (needed w z s6 Bge 5 7 t1 (λ f g x. ap2 (read f 5) lo (read f 7) (bits least_short) (taken Bge) x.1.1.0 x.0) (λ f g x. x.1.1.1))
       (λ h. both w z s6 s7 z two (need_code Bge 7 6) true t2
-      (temps_test w z s6 s7 two refl (λ f g x. (parts greatest_short (omega (arith, ints), omega (arith, ints)), (x.1.0, (x.1.1.0, knows_temps known e two f g refl x.1.1.1)))))
+      (temps_test w z s6 s7 two refl
+      (λ f g x.
+      (parts greatest_short (omega (arith, ints), omega (arith, ints)), (x.1.0, (x.1.1.0, knows_temps known e two f g refl x.1.1.1)))))
       (λ h. weaker_after w z s7 s7 z (need_code Bge 7 6) t2
       (needed w z s7 Bge 7 6 t2 (λ f g x. ap2 (read f 7) (bits greatest_short) (read f 6) hi (taken Bge) x.0 x.1.0) (λ f g x. x.1.1.1))
       (λ f g x. x.1.1.1))))
 
   duty_run : (form : LinearForm) (around : List ℕ) → IsForm form → AreRoundsKnown known form around
-      → IsTest w (Known known e) (Known known e) (Known known e) (form_code 5 form ++ (short_code ++ (low_code 5 (own_form form around) (own_slots around) ++ (high_code 6 (own_form form around) (own_slots around) 0 ++ shorts_code)))) (duty_words e form around)
+      → IsTest w (Known known e) (Known known e) (Known known e)
+      (form_code 5 form
+      ++ (short_code
+      ++ (low_code 5 (own_form form around)
+      (own_slots around) ++ (high_code 6 (own_form form around) (own_slots around) 0 ++ shorts_code)))) (duty_words e form around)
   duty_run form around fine has =
       let z = Known known e in
       let own = own_form form around in
@@ -82,7 +91,8 @@ module _ (w : World) (known : ℕ → Bool) (e : ℕ → ℕ) where
       let c3 = low_code 5 own slots ++ c4 in
       let c2 = need_code Beq 5 6 ++ c3 in
       both w z z s1 z (form_code 5 form) (one ++ c2) true (t && u)
-      (formed w known e 5 t5 form.constant form.terms z s1 (constant_short form.constant fine.bounded.constant) (terms_known known form fine has.terms) (λ f g x. x) (λ f g p q x. (refl, knows_three known e f g 5 p q _ t5 x)))
+      (formed w known e 5 t5 form.constant form.terms z s1 (constant_short form.constant fine.bounded.constant)
+      (terms_known known form fine has.terms) (λ f g x. x) (λ f g p q x. (refl, knows_three known e f g 5 p q _ t5 x)))
       (λ h. both w z s1 s2 z one c2 true (t && u)
       (temps_test w z s1 s2 one refl (λ f g x. (ap (λ y. alu_imm Addiw y (pos 0)) x.0, (x.0, knows_temps known e one f g refl x.1))))
       (λ h. both w z s2 s2 z (need_code Beq 5 6) c3 t u
@@ -93,7 +103,10 @@ module _ (w : World) (known : ℕ → Bool) (e : ℕ → ℕ) where
       (λ h. both w z s3 s4 z (high_code 6 own slots 0) shorts_code true u
       (raised w known e 6 t6 own slots 0 top s3 s4 (own_is_form form around fine) (terms_known known form fine has.terms) (λ f g x. x.1)
       (λ f g x. own_raised known e f g form around fine x.1 has)
-      (λ f g p q x. (end_is (first_value e form +ℤ highest_shift form (last_at around (last_from e))) 0, (x.0, knows_put known e (three f 6 p q top) g 6 _ t6.temporary (knows_three known e f g 6 p q top t6 x.1)))))
+      (λ f g p q x. (
+        end_is (first_value e form +ℤ highest_shift form (last_at around (last_from e))) 0,
+        (x.0, knows_put known e (three f 6 p q top) g 6 _ t6.temporary (knows_three known e f g 6 p q top t6 x.1)),
+      )))
       (λ h. shorts_law lo hi)))))
 
 -- over integers
@@ -106,11 +119,16 @@ below_is b = grind (arith, ints, nat_tests)
 short_bounds : (s : ℤ) → (int_le least_short s && int_lt s (pos (2 ^ 31))) ≡ true → (least_short ≤ℤ s) × (s ≤ℤ greatest_short)
 short_bounds s h = (grind (arith, ints, nat_tests), grind (arith, ints, nat_tests))
 
-long_low : (s y : ℤ) → (int_le least_short s && int_lt s (pos (2 ^ 31))) ≡ true → (negsuc (3 * 2 ^ 61 - 1) ≤ℤ y) × (y ≤ℤ pos 0) → IsLong (s +ℤ y)
-long_low s y h b = let p = b.0 in let q = b.1 in let r = short_bounds s h in let r0 = r.0 in let r1 = r.1 in (omega (arith, ints, p, q, r0, r1), omega (arith, ints, p, q, r0, r1))
+long_low : (s y : ℤ) → (int_le least_short s && int_lt s (pos (2 ^ 31))) ≡ true → (negsuc (3 * 2 ^ 61 - 1) ≤ℤ y) × (y ≤ℤ pos 0)
+    → IsLong (s +ℤ y)
+long_low s y h b =
+    let p = b.0 in let q = b.1 in let r = short_bounds s h in let r0 = r.0 in let r1 = r.1 in
+    (omega (arith, ints, p, q, r0, r1), omega (arith, ints, p, q, r0, r1))
 
 long_high : (s y : ℤ) → (int_le least_short s && int_lt s (pos (2 ^ 31))) ≡ true → (pos 0 ≤ℤ y) × (y ≤ℤ pos (3 * 2 ^ 61)) → IsLong (s +ℤ y)
-long_high s y h b = let p = b.0 in let q = b.1 in let r = short_bounds s h in let r0 = r.0 in let r1 = r.1 in (omega (arith, ints, p, q, r0, r1), omega (arith, ints, p, q, r0, r1))
+long_high s y h b =
+    let p = b.0 in let q = b.1 in let r = short_bounds s h in let r0 = r.0 in let r1 = r.1 in
+    (omega (arith, ints, p, q, r0, r1), omega (arith, ints, p, q, r0, r1))
 
 -- a word, read as a signed number
 read_alike : (n : ℕ) → n < 2 ^ 64 → Alike (signed64 n) (pos n)
@@ -118,7 +136,8 @@ read_alike n h = by_half (nat_lt n (2 ^ 63)) refl
   where
     by_half : (b : Bool) → nat_lt n (2 ^ 63) ≡ b → Alike (signed64 n) (pos n)
     by_half true e = let l : n < 2 ^ 63 = grind (arith, nat_tests) in alike_from _ _ (omega (arith, ints))
-    by_half false e = let k : cast_signed w64 n ≡ negsuc (2 ^ 64 - suc n) = rw e refl in record { turns = negsuc 0; is = omega (arith, ints) }
+    by_half false e =
+        let k : cast_signed w64 n ≡ negsuc (2 ^ 64 - suc n) = rw e refl in record { turns = negsuc 0; is = omega (arith, ints) }
 
 start_alike : (z : ℤ) → Alike (signed64 (word_of z)) z
 start_alike z = alike_trans _ _ _ (read_alike (word_of z) (word_below z)) (word_alike z)
@@ -127,7 +146,8 @@ none_more : (z : ℤ) → z +ℤ pos 0 ≡ z
 none_more z = omega (arith, ints)
 
 -- where the ends are short, all between them is
-between : (s y x : ℤ) → y ≤ℤ pos 0 → pos 0 ≤ℤ x → (int_le least_short s && int_lt s (pos (2 ^ 31))) ≡ false → are_short (s +ℤ y, s +ℤ x) ≡ false
+between : (s y x : ℤ) → y ≤ℤ pos 0 → pos 0 ≤ℤ x → (int_le least_short s && int_lt s (pos (2 ^ 31))) ≡ false
+    → are_short (s +ℤ y, s +ℤ x) ≡ false
 between s y x p q h = grind (arith, ints, nat_tests)
 
 only_then : (t u v : Bool) → (t ≡ true → u ≡ v) → (t ≡ false → v ≡ false) → (t && u) ≡ v
@@ -135,7 +155,11 @@ only_then true u v h k = h refl
 only_then false u v h k = sym (k refl)
 
 duty_is : (e : ℕ → ℕ) (f : LinearForm) (around : List ℕ) → IsForm f → All (λ n. n < 2 ^ 31) (last_from e)
-    → duty_words e f around ≡ are_short (signed64 (word_of (first_value e f)) +ℤ lowest_shift f (last_at around (last_from e)), signed64 (word_of (first_value e f)) +ℤ highest_shift f (last_at around (last_from e)))
+    → duty_words e f around ≡ are_short (
+      signed64 (word_of (first_value e f)) +ℤ lowest_shift f (last_at around (last_from e)),
+      signed64
+          (word_of (first_value e f)) +ℤ highest_shift f (last_at around (last_from e)),
+    )
 duty_is e f around fine low =
     let z = first_value e f in
     let v = value_of e f.constant f.terms in
@@ -146,21 +170,31 @@ duty_is e f around fine low =
     let same = start_is e f fine in
     let t = int_le least_short s && int_lt s (pos (2 ^ 31)) in
     let rest = taken Bge (least_word e f around) (bits least_short) && taken Bge (bits greatest_short) (end_word e f around 0) in
-    ap (λ q. q && rest) (short_word v (sum_below e f fine) ∙ ap (λ n. int_le least_short (signed64 n) && int_lt (signed64 n) (pos (2 ^ 31))) same)
+    ap (λ q. q && rest)
+    (short_word v (sum_below e f fine) ∙ ap (λ n. int_le least_short (signed64 n) && int_lt (signed64 n) (pos (2 ^ 31))) same)
     ∙ only_then t rest (are_short (s +ℤ y, s +ℤ x))
-    (λ h. ap (λ n. not (int_lt n least_short) && taken Bge (bits greatest_short) (end_word e f around 0)) (sum_signed z y s (start_alike z) (long_low s y h b.falls))
-    ∙ ap (λ n. not (int_lt (s +ℤ y) least_short) && not (int_lt greatest_short n)) (ap (λ n. signed64 (word_of n)) (none_more (z +ℤ x)) ∙ sum_signed z x s (start_alike z) (long_high s x h b.rises))
+    (λ h. ap (λ n. not (int_lt n least_short) && taken Bge (bits greatest_short) (end_word e f around 0))
+    (sum_signed z y s (start_alike z) (long_low s y h b.falls))
+    ∙ ap (λ n. not (int_lt (s +ℤ y) least_short) && not (int_lt greatest_short n))
+    (ap (λ n. signed64 (word_of n)) (none_more (z +ℤ x)) ∙ sum_signed z x s (start_alike z) (long_high s x h b.rises))
     ∙ ap (λ q. q && not (int_lt greatest_short (s +ℤ x))) (ge_is (s +ℤ y) least_short)
     ∙ ap (λ q. int_le least_short (s +ℤ y) && q) (below_is (s +ℤ x)))
     (λ h. between s y x b.falls.1 b.rises.0 h)
 
-fits_is : (e : ℕ → ℕ) (d : Duty) → duty_fits (words e) (last_from e) d ≡ are_short (signed64 (word_of (first_value e d.form)) +ℤ lowest_shift d.form (last_at d.around (last_from e)), signed64 (word_of (first_value e d.form)) +ℤ highest_shift d.form (last_at d.around (last_from e)))
+fits_is : (e : ℕ → ℕ) (d : Duty)
+    → duty_fits (words e) (last_from e) d ≡ are_short (
+      signed64 (word_of (first_value e d.form)) +ℤ lowest_shift d.form (last_at d.around (last_from e)),
+      signed64
+          (word_of (first_value e d.form)) +ℤ highest_shift d.form (last_at d.around (last_from e)),
+    )
 unfolding duty_fits start_value
 fits_is e d = refl
 
 -- a duty's words go on where it is met, and to the open target where it is not
-pub duty_law : (w : World) (known : ℕ → Bool) (e : ℕ → ℕ) (d : Duty) → IsForm d.form → AreRoundsKnown known d.form d.around → All (λ n. n < 2 ^ 31) (last_from e)
+pub duty_law : (w : World) (known : ℕ → Bool) (e : ℕ → ℕ) (d : Duty) → IsForm d.form → AreRoundsKnown known d.form d.around
+    → All (λ n. n < 2 ^ 31) (last_from e)
     → IsTest w (Known known e) (Known known e) (Known known e) (duty_code d) (duty_fits (words e) (last_from e) d)
 duty_law w known e d fine has low =
-    same_test w (Known known e) (Known known e) (Known known e) (duty_code d) (duty_words e d.form d.around) (duty_fits (words e) (last_from e) d) (duty_is e d.form d.around fine low ∙ sym (fits_is e d))
+    same_test w (Known known e) (Known known e) (Known known e) (duty_code d) (duty_words e d.form d.around)
+    (duty_fits (words e) (last_from e) d) (duty_is e d.form d.around fine low ∙ sym (fits_is e d))
     (duty_run w known e d.form d.around fine has)

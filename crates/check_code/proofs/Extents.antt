@@ -59,7 +59,8 @@ pub terms_known : (known : ℕ → Bool) (f : LinearForm) → IsForm f → AreKn
 terms_known known f h k = known_terms known f.terms k (form_terms f h)
 
 -- the words of sums, whatever the last turn numbers are
-pub low_is : (e : ℕ → ℕ) (f : LinearForm) (x : ℕ → ℕ) (z : ℤ) → IsForm f → Alike (pos (value_of e f.constant f.terms)) z → low_word e f x ≡ word_of (z +ℤ lowest_shift f x)
+pub low_is : (e : ℕ → ℕ) (f : LinearForm) (x : ℕ → ℕ) (z : ℤ) → IsForm f → Alike (pos (value_of e f.constant f.terms)) z
+    → low_word e f x ≡ word_of (z +ℤ lowest_shift f x)
 low_is e f x z fine start =
     let st = strides_of f fine in
     let n = value_of e f.constant f.terms in
@@ -74,7 +75,8 @@ low_is e f x z fine start =
     let a3 = fallen_alike n2 (z +ℤ least f.first (x 0) +ℤ least f.second (x 1)) f.third (x 2) st.third a2 in
     word_is _ _ b3 (alike_trans _ _ _ a3 (alike_from _ _ (regroup z (least f.first (x 0)) (least f.second (x 1)) (least f.third (x 2)))))
 
-pub raised_alike : (e : ℕ → ℕ) (f : LinearForm) (x : ℕ → ℕ) (z : ℤ) → IsForm f → Alike (pos (value_of e f.constant f.terms)) z → Alike (pos (raised_word e f x)) (z +ℤ highest_shift f x)
+pub raised_alike : (e : ℕ → ℕ) (f : LinearForm) (x : ℕ → ℕ) (z : ℤ) → IsForm f → Alike (pos (value_of e f.constant f.terms)) z
+    → Alike (pos (raised_word e f x)) (z +ℤ highest_shift f x)
 raised_alike e f x z fine start =
     let st = strides_of f fine in
     let n = value_of e f.constant f.terms in
@@ -88,8 +90,10 @@ raised_alike e f x z fine start =
 reduced : (n : ℕ) → n % 2 ^ 64 < 2 ^ 64
 reduced n = omega arith
 
-pub high_is : (e : ℕ → ℕ) (f : LinearForm) (x : ℕ → ℕ) (z : ℤ) (size : ℕ) → IsForm f → Alike (pos (value_of e f.constant f.terms)) z → high_word e f x size ≡ word_of (z +ℤ highest_shift f x +ℤ pos size)
-high_is e f x z size fine start = word_is _ _ (reduced (raised_word e f x + size)) (more_alike (raised_word e f x) _ size (raised_alike e f x z fine start))
+pub high_is : (e : ℕ → ℕ) (f : LinearForm) (x : ℕ → ℕ) (z : ℤ) (size : ℕ) → IsForm f → Alike (pos (value_of e f.constant f.terms)) z
+    → high_word e f x size ≡ word_of (z +ℤ highest_shift f x +ℤ pos size)
+high_is e f x z size fine start =
+    word_is _ _ (reduced (raised_word e f x + size)) (more_alike (raised_word e f x) _ size (raised_alike e f x z fine start))
 
 -- the slots have the last turn numbers of the loops
 none_less : (by : ℤ) → least by 0 ≡ pos 0
@@ -109,30 +113,41 @@ no_loop n = grind (arith, nat_tests)
 no_stride : (n : ℕ) (by : ℤ) → own_stride (suc (suc (suc (suc n)))) by ≡ pos 0
 no_stride n by = rw (no_loop n) refl
 
-least_own : (known : ℕ → Bool) (e f g : ℕ → ℕ) → Knows known e f g → (place : ℕ) (by : ℤ) → IsPassKnown known place → least (own_stride place by) (g (pass_slot place)) ≡ least by (last_pass (last_from e) place)
+least_own : (known : ℕ → Bool) (e f g : ℕ → ℕ) → Knows known e f g → (place : ℕ) (by : ℤ) → IsPassKnown known place
+    → least (own_stride place by) (g (pass_slot place)) ≡ least by (last_pass (last_from e) place)
 least_own known e f g k zero by h = sym (none_less by)
 least_own known e f g k (suc zero) by h = ap (least by) (k.each 56 (h refl))
 least_own known e f g k (suc (suc zero)) by h = ap (least by) (k.each 57 (h refl))
 least_own known e f g k (suc (suc (suc zero))) by h = ap (least by) (k.each 58 (h refl))
-least_own known e f g k (suc (suc (suc (suc n)))) by h = ap (λ y. least y (g (pass_slot (suc (suc (suc (suc n))))))) (no_stride n by) ∙ sym (none_less by)
+least_own known e f g k (suc (suc (suc (suc n)))) by h =
+    ap (λ y. least y (g (pass_slot (suc (suc (suc (suc n))))))) (no_stride n by) ∙ sym (none_less by)
 
-most_own : (known : ℕ → Bool) (e f g : ℕ → ℕ) → Knows known e f g → (place : ℕ) (by : ℤ) → IsPassKnown known place → most (own_stride place by) (g (pass_slot place)) ≡ most by (last_pass (last_from e) place)
+most_own : (known : ℕ → Bool) (e f g : ℕ → ℕ) → Knows known e f g → (place : ℕ) (by : ℤ) → IsPassKnown known place
+    → most (own_stride place by) (g (pass_slot place)) ≡ most by (last_pass (last_from e) place)
 most_own known e f g k zero by h = zero_times (g (pass_slot 0)) ∙ sym (none_more by)
 most_own known e f g k (suc zero) by h = ap (most by) (k.each 56 (h refl))
 most_own known e f g k (suc (suc zero)) by h = ap (most by) (k.each 57 (h refl))
 most_own known e f g k (suc (suc (suc zero))) by h = ap (most by) (k.each 58 (h refl))
-most_own known e f g k (suc (suc (suc (suc n)))) by h = ap (λ y. most y (g (pass_slot (suc (suc (suc (suc n))))))) (no_stride n by) ∙ zero_times (g (pass_slot (suc (suc (suc (suc n)))))) ∙ sym (none_more by)
+most_own known e f g k (suc (suc (suc (suc n)))) by h =
+    ap (λ y. most y (g (pass_slot (suc (suc (suc (suc n))))))) (no_stride n by) ∙ zero_times (g (pass_slot (suc (suc (suc (suc n)))))) ∙ sym
+    (none_more by)
 
 sum_of_three : (a b c a' b' c' : ℤ) → a ≡ a' → b ≡ b' → c ≡ c' → a +ℤ (b +ℤ c) ≡ a' +ℤ (b' +ℤ c')
 sum_of_three a b c a' b' c' p q r = cc
 
-lowest_own : (known : ℕ → Bool) (e f g : ℕ → ℕ) (form : LinearForm) (around : List ℕ) → Knows known e f g → AreRoundsKnown known form around → lowest_shift (own_form form around) (from_slots g (own_slots around)) ≡ lowest_shift form (last_at around (last_from e))
+lowest_own : (known : ℕ → Bool) (e f g : ℕ → ℕ) (form : LinearForm) (around : List ℕ) → Knows known e f g → AreRoundsKnown known form around
+    → lowest_shift (own_form form around) (from_slots g (own_slots around)) ≡ lowest_shift form (last_at around (last_from e))
 lowest_own known e f g form around k h =
-    sum_of_three _ _ _ _ _ _ (ap (least form.first) (k.each 55 h.root)) (least_own known e f g k (slice_index around 1) form.second h.second) (least_own known e f g k (slice_index around 2) form.third h.third)
+    sum_of_three _ _ _ _ _ _ (ap (least form.first) (k.each 55 h.root))
+    (least_own known e f g k (slice_index around 1) form.second h.second)
+    (least_own known e f g k (slice_index around 2) form.third h.third)
 
-highest_own : (known : ℕ → Bool) (e f g : ℕ → ℕ) (form : LinearForm) (around : List ℕ) → Knows known e f g → AreRoundsKnown known form around → highest_shift (own_form form around) (from_slots g (own_slots around)) ≡ highest_shift form (last_at around (last_from e))
+highest_own : (known : ℕ → Bool) (e f g : ℕ → ℕ) (form : LinearForm) (around : List ℕ) → Knows known e f g
+    → AreRoundsKnown known form around
+    → highest_shift (own_form form around) (from_slots g (own_slots around)) ≡ highest_shift form (last_at around (last_from e))
 highest_own known e f g form around k h =
-    sum_of_three _ _ _ _ _ _ (ap (most form.first) (k.each 55 h.root)) (most_own known e f g k (slice_index around 1) form.second h.second) (most_own known e f g k (slice_index around 2) form.third h.third)
+    sum_of_three _ _ _ _ _ _ (ap (most form.first) (k.each 55 h.root)) (most_own known e f g k (slice_index around 1) form.second h.second)
+    (most_own known e f g k (slice_index around 2) form.third h.third)
 
 -- the words that LO and HI leave
 abbrev pub least_word : (ℕ → ℕ) → LinearForm → List ℕ → ℕ
@@ -141,17 +156,22 @@ least_word e f around = word_of (first_value e f +ℤ lowest_shift f (last_at ar
 abbrev pub end_word : (ℕ → ℕ) → LinearForm → List ℕ → ℕ → ℕ
 end_word e f around size = word_of (first_value e f +ℤ highest_shift f (last_at around (last_from e)) +ℤ pos size)
 
-pub own_low : (known : ℕ → Bool) (e f g : ℕ → ℕ) (form : LinearForm) (around : List ℕ) → IsForm form → Knows known e f g → AreRoundsKnown known form around → low_word e (own_form form around) (from_slots g (own_slots around)) ≡ least_word e form around
+pub own_low : (known : ℕ → Bool) (e f g : ℕ → ℕ) (form : LinearForm) (around : List ℕ) → IsForm form → Knows known e f g
+    → AreRoundsKnown known form around → low_word e (own_form form around) (from_slots g (own_slots around)) ≡ least_word e form around
 own_low known e f g form around fine k h =
-    low_is e (own_form form around) (from_slots g (own_slots around)) (first_value e form) (own_is_form form around fine) (start_alike e form fine)
+    low_is e (own_form form around) (from_slots g (own_slots around)) (first_value e form) (own_is_form form around fine)
+    (start_alike e form fine)
     ∙ ap (λ y. word_of (first_value e form +ℤ y)) (lowest_own known e f g form around k h)
 
 -- the same before the bytes are added
-pub own_raised : (known : ℕ → Bool) (e f g : ℕ → ℕ) (form : LinearForm) (around : List ℕ) → IsForm form → Knows known e f g → AreRoundsKnown known form around → raised_word e (own_form form around) (from_slots g (own_slots around)) ≡ word_of (first_value e form +ℤ highest_shift form (last_at around (last_from e)))
+pub own_raised : (known : ℕ → Bool) (e f g : ℕ → ℕ) (form : LinearForm) (around : List ℕ) → IsForm form → Knows known e f g
+    → AreRoundsKnown known form around
+    → raised_word e (own_form form around) (from_slots g (own_slots around)) ≡ word_of (first_value e form +ℤ highest_shift form (last_at around (last_from e)))
 own_raised known e f g form around fine k h =
     let own = own_form form around in
     let x = from_slots g (own_slots around) in
-    word_is _ _ (raised_below e own x (own_is_form form around fine)) (raised_alike e own x (first_value e form) (own_is_form form around fine) (start_alike e form fine))
+    word_is _ _ (raised_below e own x (own_is_form form around fine))
+    (raised_alike e own x (first_value e form) (own_is_form form around fine) (start_alike e form fine))
     ∙ ap (λ y. word_of (first_value e form +ℤ y)) (highest_own known e f g form around k h)
   where
     raised_below : (e : ℕ → ℕ) (f : LinearForm) (x : ℕ → ℕ) → IsForm f → raised_word e f x < 2 ^ 64
@@ -184,7 +204,8 @@ last_low e (suc (suc (suc (suc n)))) h = omega arith
 pub own_shifts : (e : ℕ → ℕ) (form : LinearForm) (around : List ℕ) → IsBounded form → All (λ n. n < 2 ^ 31) (last_from e)
     → AreShifts form (last_at around (last_from e)) (lowest_shift form (last_at around (last_from e)), highest_shift form (last_at around (last_from e)))
 own_shifts e form around b h =
-    shifts_of form (last_at around (last_from e)) b (h 0 0 (omega arith)) (last_low e (slice_index around 1) h) (last_low e (slice_index around 2) h)
+    shifts_of form (last_at around (last_from e)) b (h 0 0 (omega arith)) (last_low e (slice_index around 1) h)
+    (last_low e (slice_index around 2) h)
 
 plus_assoc : (x y z : ℤ) → x +ℤ y +ℤ z ≡ x +ℤ (y +ℤ z)
 plus_assoc x y z = omega (arith, ints)
@@ -221,6 +242,7 @@ end_signed e a fine low h =
     let same = start_is_word e a.form in
     let small : v < 2 ^ 31 = subst (λ m. m < 2 ^ 31) same h in
     ap (λ x. signed64 (word_of x)) (plus_assoc z y (pos n))
-    ∙ sum_signed z (y +ℤ pos n) (pos v) (word_alike z) (long_high v n y small (width_small a.width) (own_shifts e a.form a.around fine.bounded low).rises)
+    ∙ sum_signed z (y +ℤ pos n) (pos v) (word_alike z)
+    (long_high v n y small (width_small a.width) (own_shifts e a.form a.around fine.bounded low).rises)
     ∙ sym (plus_assoc (pos v) y (pos n))
     ∙ ap (λ m. pos m +ℤ y +ℤ pos n) (sym same)

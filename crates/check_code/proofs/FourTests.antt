@@ -47,10 +47,12 @@ or_false true = refl
 or_false false = refl
 
 module _ (w : World) (known : ℕ → Bool) (e : ℕ → ℕ) (turns : known 55 ≡ true) (d s c : ℕ) where
-  same_of : (m : ℕ) (f g f' g' : ℕ → ℕ) → Ready known e d s c m f g → Knows known e f' g' → read f' 5 ≡ read f 5 → read f' 6 ≡ read f 6 → read f' 28 ≡ read f 28 → read f' 29 ≡ read f 29 → Ready known e d s c m f' g'
+  same_of : (m : ℕ) (f g f' g' : ℕ → ℕ) → Ready known e d s c m f g → Knows known e f' g' → read f' 5 ≡ read f 5 → read f' 6 ≡ read f 6
+      → read f' 28 ≡ read f 28 → read f' 29 ≡ read f 29 → Ready known e d s c m f' g'
   same_of m f g f' g' x k a5 a6 a28 a29 = record { front = record { knows = k; five = a5 ∙ x.front.five; six = a6 ∙ x.front.six; diff = a28 ∙ x.front.diff }; last = a29 ∙ x.last }
 
-  far_test : (m width : ℕ) → IsTest w (Known known e) (Ready known e d s c m) (Known known e) (far_code width) (apart_words d (e 55) m s (pos width))
+  far_test : (m width : ℕ)
+      → IsTest w (Known known e) (Ready known e d s c m) (Known known e) (far_code width) (apart_words d (e 55) m s (pos width))
   far_test m width =
       let z = Known known e in
       let a = Ready known e d s c m in
@@ -60,7 +62,8 @@ module _ (w : World) (known : ℕ → Bool) (e : ℕ → ℕ) (turns : known 55 
       same_test w z a z (far_code width) _ _ (or_false (taken Bge d v))
       (both w z a mid z sum (over Bge 5 31 (open_jump ∷ []) ∷ open_jump ∷ []) true (taken Bge d v || false)
       (temps_test w z a mid sum refl (λ f g x. (
-        ap3 (g 23) (e 55) (read f 29) m (read f 6) s (λ p q r. apart_word p q r (pos width)) (x.front.knows.each 55 turns) x.last x.front.six,
+        ap3 (g 23) (e 55) (read f 29) m (read f 6) s (λ p q r. apart_word p q r (pos width))
+            (x.front.knows.each 55 turns) x.last x.front.six,
         same_of m f g _ _ x (knows_temps known e sum f g refl x.front.knows) refl refl refl refl,
       )))
       (λ h. or_else w z mid z Bge 5 31 (open_jump ∷ []) (taken Bge d v) false
@@ -70,7 +73,8 @@ module _ (w : World) (known : ℕ → Bool) (e : ℕ → ℕ) (turns : known 55 
   abbrev below_part : List XInstr → List XInstr
   below_part rest = Base (Alu Sub 30 30 7) ∷ over Bge 30 31 rest ∷ []
 
-  below_test : (m r g wd : ℕ) (rest : List XInstr) (u : Bool) → length rest < 2 ^ 18 → IsTest w (Known known e) (Ready known e d s c m) (Known known e) rest u
+  below_test : (m r g wd : ℕ) (rest : List XInstr) (u : Bool) → length rest < 2 ^ 18
+      → IsTest w (Known known e) (Ready known e d s c m) (Known known e) rest u
       → IsTest w (Known known e) (With 31 wd (With 7 r (With 30 g (Ready known e d s c m)))) (Known known e) (below_part rest ++ rest) (taken Bge (alu Sub g r) wd || u)
   below_test m r g wd rest u short further =
       let z = Known known e in
@@ -90,7 +94,8 @@ module _ (w : World) (known : ℕ → Bool) (e : ℕ → ℕ) (turns : known 55 
       (λ f h x. ap2 (read f 30) (alu Sub g r) (read f 31) wd (taken Bge) x.0 x.1.0) (λ f h x. x.1.1.front.knows) (omega arith)
       (λ k. stronger w z mid a z rest u (λ f h x. x.1.1) further))
 
-  near_test : (m r g width : ℕ) (rest : List XInstr) (u : Bool) → length rest < 2 ^ 18 → IsTest w (Known known e) (Ready known e d s c m) (Known known e) rest u
+  near_test : (m r g width : ℕ) (rest : List XInstr) (u : Bool) → length rest < 2 ^ 18
+      → IsTest w (Known known e) (Ready known e d s c m) (Known known e) rest u
       → IsTest w (Known known e) (With 7 r (With 30 g (Ready known e d s c m))) (Known known e) (Base (AluImm Addi 31 0 (pos width)) ∷ over Blt 7 31 (below_part rest) ∷ (below_part rest ++ rest)) (near_words r g (alu_imm Addi 0 (pos width)) u)
   near_test m r g width rest u short further =
       let z = Known known e in
@@ -115,7 +120,8 @@ module _ (w : World) (known : ℕ → Bool) (e : ℕ → ℕ) (turns : known 55 
       (λ k. stronger w z mid a z rest u (λ f h x. x.1.1.1) further)
       (λ k. below_test m r g wd rest u short further))
 
-  residue_test : (m g width : ℕ) (rest : List XInstr) (u : Bool) → g < 2 ^ 31 → length rest < 2 ^ 18 → IsTest w (Known known e) (Ready known e d s c m) (Known known e) rest u
+  residue_test : (m g width : ℕ) (rest : List XInstr) (u : Bool) → g < 2 ^ 31 → length rest < 2 ^ 18
+      → IsTest w (Known known e) (Ready known e d s c m) (Known known e) rest u
       → IsTest w (Known known e) (Ready known e d s c m) (Known known e) (residue_code g width (length rest) ++ rest) (residue_words c g (pos width) u)
   residue_test m g width rest u low short further =
       let z = Known known e in
@@ -148,7 +154,8 @@ module _ (w : World) (known : ℕ → Bool) (e : ℕ → ℕ) (turns : known 55 
       )))
       (λ h. near_test m (alu Add r g) g width rest u short further)))
 
-  lane_test : (m lane width : ℕ) (rest : List XInstr) (u : Bool) → lane < 2 ^ 31 → length rest < 2 ^ 18 → IsTest w (Known known e) (Ready known e d s c m) (Known known e) rest u
+  lane_test : (m lane width : ℕ) (rest : List XInstr) (u : Bool) → lane < 2 ^ 31 → length rest < 2 ^ 18
+      → IsTest w (Known known e) (Ready known e d s c m) (Known known e) rest u
       → IsTest w (Known known e) (Ready known e d s c m) (Known known e) (lane_code lane width (length rest) ++ rest) (lane_words d (e 55) m lane (pos width) u)
   lane_test m lane width rest u low short further =
       let z = Known known e in
@@ -180,7 +187,8 @@ module _ (w : World) (known : ℕ → Bool) (e : ℕ → ℕ) (turns : known 55 
       (λ f h x. ap2 (read f 30) lane (read f 7) v (taken Bge) x.0 x.1.0) (λ f h x. x.1.1.front.knows) (omega arith)
       (λ k. stronger w z last a z rest u (λ f h x. x.1.1) further))))
 
-  block_test : (m width : ℕ) (rest : List XInstr) (u : Bool) → m < 2 ^ 31 → length rest < 2 ^ 18 → IsTest w (Known known e) (Ready known e d s c m) (Known known e) rest u
+  block_test : (m width : ℕ) (rest : List XInstr) (u : Bool) → m < 2 ^ 31 → length rest < 2 ^ 18
+      → IsTest w (Known known e) (Ready known e d s c m) (Known known e) rest u
       → IsTest w (Known known e) (Front known e d s c) (Known known e) (block_code m width (length rest) ++ rest) (block_words d s m (pos width) u)
   block_test m width rest u low short further =
       let z = Known known e in
@@ -206,11 +214,13 @@ module _ (w : World) (known : ℕ → Bool) (e : ℕ → ℕ) (turns : known 55 
       last : Bool
       last = apart_words d (e 55) m s (pos width)
 
-      residues : (common : Bool) → IsTest w (Known known e) (Ready known e d s c m) (Known known e) (residue_part common g width ++ far_code width) (residue_if common c g (pos width) last)
+      residues : (common : Bool)
+          → IsTest w (Known known e) (Ready known e d s c m) (Known known e) (residue_part common g width ++ far_code width) (residue_if common c g (pos width) last)
       residues true = residue_test m g width (far_code width) last low_g (omega arith) (far_test m width)
       residues false = far_test m width
 
-      by_parts : (inner common : Bool) → IsTest w (Known known e) (Front known e d s c) (Known known e) (four_code inner common m lane g width) (same_words inner common c d (e 55) m s lane g (pos width))
+      by_parts : (inner common : Bool)
+          → IsTest w (Known known e) (Front known e d s c) (Known known e) (four_code inner common m lane g width) (same_words inner common c d (e 55) m s lane g (pos width))
       by_parts true true =
           block_test m width (lane_part true lane width 15 ++ (residue_part true g width ++ far_code width)) _ low_m (omega arith)
           (lane_test m lane width (residue_part true g width ++ far_code width) _ low_lane (omega arith) (residues true))

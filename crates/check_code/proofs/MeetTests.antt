@@ -52,7 +52,8 @@ pub record Ranges (known : ℕ → Bool) (e : ℕ → ℕ) (a b c d : ℕ) (f g 
 abbrev pub disjoint_words : ℕ → ℕ → ℕ → ℕ → Bool
 disjoint_words a b c d = taken Bge c b || (taken Bge a d || false)
 
-pub disjoint_test : (w : World) (known : ℕ → Bool) (e : ℕ → ℕ) (a b c d : ℕ) → IsTest w (Known known e) (Ranges known e a b c d) (Known known e) disjoint_code (disjoint_words a b c d)
+pub disjoint_test : (w : World) (known : ℕ → Bool) (e : ℕ → ℕ) (a b c d : ℕ)
+    → IsTest w (Known known e) (Ranges known e a b c d) (Known known e) disjoint_code (disjoint_words a b c d)
 disjoint_test w known e a b c d =
     let z = Known known e in
     let s = Ranges known e a b c d in
@@ -63,7 +64,8 @@ disjoint_test w known e a b c d =
     (λ f g x. ap (λ y. taken Bge y (read f 28)) x.five ∙ ap (taken Bge a) x.last) weaker (omega arith) (λ k. never w z s z weaker))
 
 -- over integers
-pub disjoint_is : (a b c d : ℕ) (x y : Range) → signed64 a ≡ x.0 → signed64 b ≡ x.1 → signed64 c ≡ y.0 → signed64 d ≡ y.1 → disjoint_words a b c d ≡ are_disjoint x y
+pub disjoint_is : (a b c d : ℕ) (x y : Range) → signed64 a ≡ x.0 → signed64 b ≡ x.1 → signed64 c ≡ y.0 → signed64 d ≡ y.1
+    → disjoint_words a b c d ≡ are_disjoint x y
 disjoint_is a b c d x y ea eb ec ed =
     ap (λ t. taken Bge c b || t) (or_false (taken Bge a d))
     ∙ ap (λ n. not (int_lt n (signed64 b)) || not (int_lt (signed64 a) (signed64 d))) ec
@@ -80,11 +82,13 @@ abbrev pub BaseOk : (ℕ → Bool) → (ℕ → ℕ) → List ℕ → Option ℕ
 BaseOk known e regs None offset = IsShort offset
 BaseOk known e regs (Some base) offset = (known base ≡ true) × (e base ≡ register regs base)
 
-base_known : (known : ℕ → Bool) (e : ℕ → ℕ) (regs : List ℕ) (base : Option ℕ) (offset : ℤ) → BaseOk known e regs base offset → AddressOk known base offset
+base_known : (known : ℕ → Bool) (e : ℕ → ℕ) (regs : List ℕ) (base : Option ℕ) (offset : ℤ) → BaseOk known e regs base offset
+    → AddressOk known base offset
 base_known known e regs None offset h = h
 base_known known e regs (Some base) offset h = h.0
 
-pub address_is : (known : ℕ → Bool) (e : ℕ → ℕ) (regs : List ℕ) (base : Option ℕ) (offset : ℤ) → BaseOk known e regs base offset → address_word e base offset ≡ address_by regs base offset
+pub address_is : (known : ℕ → Bool) (e : ℕ → ℕ) (regs : List ℕ) (base : Option ℕ) (offset : ℤ) → BaseOk known e regs base offset
+    → address_word e base offset ≡ address_by regs base offset
 address_is known e regs None offset h = bits_word offset h
 address_is known e regs (Some base) offset h = ap (λ x. plus_offset x offset) h.1
 
@@ -104,7 +108,8 @@ more_bytes v n h k =
 module _ (w : World) (known : ℕ → Bool) (e : ℕ → ℕ) where
   meet_words : (c : Cell) (a : Access) → AddressOk known c.base c.offset → IsForm a.form → AreRoundsKnown known a.form a.around
       → (let v = address_word e c.base c.offset in
-      IsTest w (Known known e) (Known known e) (Known known e) (meet_code c a) (disjoint_words v (alu_imm Addi v (pos (cell_size c))) (least_word e a.form a.around) (end_word e a.form a.around (bytes_of a.width))))
+      IsTest w (Known known e) (Known known e) (Known known e) (meet_code c a)
+      (disjoint_words v (alu_imm Addi v (pos (cell_size c))) (least_word e a.form a.around) (end_word e a.form a.around (bytes_of a.width))))
   meet_words c a ok fine has =
       let z = Known known e in
       let n = pos (cell_size c) in
@@ -137,7 +142,8 @@ module _ (w : World) (known : ℕ → Bool) (e : ℕ → ℕ) where
       (λ h. disjoint_test w known e v u lo hi))))
 
 -- the words of a cell and an access go on where they have no byte in common, and to the open target where they have
-pub meet_law : (w : World) (known : ℕ → Bool) (e : ℕ → ℕ) (regs : List ℕ) (c : Cell) (a : Access) → BaseOk known e regs c.base c.offset → IsForm a.form → AreRoundsKnown known a.form a.around → All (λ n. n < 2 ^ 31) (last_from e)
+pub meet_law : (w : World) (known : ℕ → Bool) (e : ℕ → ℕ) (regs : List ℕ) (c : Cell) (a : Access) → BaseOk known e regs c.base c.offset
+    → IsForm a.form → AreRoundsKnown known a.form a.around → All (λ n. n < 2 ^ 31) (last_from e)
     → address regs c < 2 ^ 31 → start_value a.form (words e) < 2 ^ 31
     → IsTest w (Known known e) (Known known e) (Known known e) (meet_code c a) (are_disjoint (cell_range regs c) (whole_range a (pos (start_value a.form (words e))) (last_from e)))
 meet_law w known e regs c a ok fine has lasts low begins =
@@ -152,7 +158,8 @@ meet_law w known e regs c a ok fine has lasts low begins =
     (meet_words w known e c a (base_known known e regs c.base c.offset ok) fine has)
 
 -- where neither is stored there are no words
-pub keep_off_law : (w : World) (known : ℕ → Bool) (e : ℕ → ℕ) (regs : List ℕ) (c : Cell) (a : Access) → BaseOk known e regs c.base c.offset → IsForm a.form → AreRoundsKnown known a.form a.around → All (λ n. n < 2 ^ 31) (last_from e)
+pub keep_off_law : (w : World) (known : ℕ → Bool) (e : ℕ → ℕ) (regs : List ℕ) (c : Cell) (a : Access) → BaseOk known e regs c.base c.offset
+    → IsForm a.form → AreRoundsKnown known a.form a.around → All (λ n. n < 2 ^ 31) (last_from e)
     → address regs c < 2 ^ 31 → start_value a.form (words e) < 2 ^ 31
     → IsTest w (Known known e) (Known known e) (Known known e) (keep_off_code c a) (keeps_off regs c (place_of (words e) (last_from e) a))
 unfolding keeps_off place_of

@@ -50,7 +50,8 @@ use Rattle.check_code.proofs.FourTests.{Front, four_test}
 -- the passes of an inner loop are known where the stride there is not 0
 abbrev pub ArePassesKnown : (ℕ → Bool) → List ℕ → Type 0
 ArePassesKnown known inner =
-    (nat_lt 0 (slice_index inner 0) ≡ true → known 56 ≡ true) × (nat_lt 0 (slice_index inner 1) ≡ true → known 57 ≡ true) × (nat_lt 0 (slice_index inner 2) ≡ true → known 58 ≡ true)
+    (nat_lt 0 (slice_index inner 0) ≡ true → known 56 ≡ true) × (nat_lt 0 (slice_index inner 1) ≡ true → known 57 ≡ true) ×
+    (nat_lt 0 (slice_index inner 2) ≡ true → known 58 ≡ true)
 
 -- one size times the last pass, added
 abbrev pub one_more : ℕ → ℕ → ℕ → ℕ
@@ -59,7 +60,8 @@ one_more n size x = cond (int_lt (pos 0) (pos size)) (added n (pos size) x) n
 positive : (size : ℕ) → int_lt (pos 0) (pos size) ≡ nat_lt 0 size
 positive size = grind (arith, ints, nat_tests)
 
-one_known : (known : ℕ → Bool) (e f g : ℕ → ℕ) (loc slot n size : ℕ) → (known loc ≡ true → g slot ≡ e loc) → (nat_lt 0 size ≡ true → known loc ≡ true) → one_more n size (g slot) ≡ one_more n size (e loc)
+one_known : (known : ℕ → Bool) (e f g : ℕ → ℕ) (loc slot n size : ℕ) → (known loc ≡ true → g slot ≡ e loc)
+    → (nat_lt 0 size ≡ true → known loc ≡ true) → one_more n size (g slot) ≡ one_more n size (e loc)
 one_known known e f g loc slot n size is has = by_test (int_lt (pos 0) (pos size)) refl
   where
     by_test : (t : Bool) → int_lt (pos 0) (pos size) ≡ t → cond t (added n (pos size) (g slot)) n ≡ cond t (added n (pos size) (e loc)) n
@@ -105,7 +107,8 @@ one_is n size x h k q = by_test (int_lt (pos 0) (pos size)) refl
     by_test true y = added_small n size x h (product_most x size k h) q
     by_test false y = let z : size ≡ 0 = grind (arith, ints, nat_tests) in rw z (omega arith)
 
-span_is : (e : ℕ → ℕ) (inner : List ℕ) → slice_index inner 0 < 2 ^ 30 → slice_index inner 1 < 2 ^ 30 → slice_index inner 2 < 2 ^ 30 → e 56 < 2 ^ 31 → e 57 < 2 ^ 31 → e 58 < 2 ^ 31
+span_is : (e : ℕ → ℕ) (inner : List ℕ) → slice_index inner 0 < 2 ^ 30 → slice_index inner 1 < 2 ^ 30 → slice_index inner 2 < 2 ^ 30
+    → e 56 < 2 ^ 31 → e 57 < 2 ^ 31 → e 58 < 2 ^ 31
     → (span_word e inner ≡ span inner (last_from e)) × (span inner (last_from e) ≤ 3 * most)
 span_is e inner a b c x y z =
     let p = product_most (e 56) (slice_index inner 0) x a in
@@ -123,9 +126,11 @@ span_is e inner a b c x y z =
 
 -- accesses of the same shape
 module _ (w : World) (known : ℕ → Bool) (e : ℕ → ℕ) where
-  distance_test : (a b : ℕ) → IsTest w (Known known e) (With 6 b (With 5 a (Known known e))) (Front known e (size_word (difference a b)) 0 (difference a b)) distance_code true
+  distance_test : (a b : ℕ)
+      → IsTest w (Known known e) (With 6 b (With 5 a (Known known e))) (Front known e (size_word (difference a b)) 0 (difference a b)) distance_code true
   distance_test a b =
-      temps_test w (Known known e) (With 6 b (With 5 a (Known known e))) (Front known e (size_word (difference a b)) 0 (difference a b)) distance_code refl (λ f h x.
+      temps_test w (Known known e) (With 6 b (With 5 a (Known known e)))
+      (Front known e (size_word (difference a b)) 0 (difference a b)) distance_code refl (λ f h x.
       record {
         knows = knows_temps known e distance_code f h refl x.1.1;
         five = ap2 (read f 5) a (read f 6) b (λ p q. size_word (difference p q)) x.1.0 x.0;
@@ -133,7 +138,8 @@ module _ (w : World) (known : ℕ → Bool) (e : ℕ → ℕ) where
         diff = ap2 (read f 5) a (read f 6) b difference x.1.0 x.0;
       })
 
-  passes_test : (d c : ℕ) (inner : List ℕ) → slice_index inner 0 < 2 ^ 30 → slice_index inner 1 < 2 ^ 30 → slice_index inner 2 < 2 ^ 30 → ArePassesKnown known inner
+  passes_test : (d c : ℕ) (inner : List ℕ) → slice_index inner 0 < 2 ^ 30 → slice_index inner 1 < 2 ^ 30 → slice_index inner 2 < 2 ^ 30
+      → ArePassesKnown known inner
       → IsTest w (Known known e) (Front known e d 0 c) (Front known e d (span_word e inner) c) (passes_code inner) true
   passes_test d c inner la lb lc has = record {
     by = λ p f g x there on off.
@@ -144,7 +150,8 @@ module _ (w : World) (known : ℕ → Bool) (e : ℕ → ℕ) where
         let c2 = rise_code 6 (pos j) 25 in
         let c3 = rise_code 6 (pos k) 26 in
         let n = one_more (one_more (one_more 0 i (g 24)) j (g 25)) k (g 26) in
-        let place : behind (behind (behind p c1) c2) c3 ≡ behind p (passes_code inner) = sym (behind-append p c1 (c2 ++ c3) ∙ behind-append (behind p c1) c2 c3) in
+        let place : behind (behind (behind p c1) c2) c3 ≡ behind p (passes_code inner) = sym
+        (behind-append p c1 (c2 ++ c3) ∙ behind-append (behind p c1) c2 c3) in
         as_three w p f g 6 (subst (λ m. Wins w p (three f 6 (f 30) (f 31) m) g) (sym x.six)
         (spans_law w f g 6 t6 (pos i) (pos j) (pos k) 24 25 26 (int_lt (pos 0) (pos i)) (int_lt (pos 0) (pos j)) (int_lt (pos 0) (pos k)) [] p (f 30) (f 31) 0 (small_is_short i la) (small_is_short j lb) (small_is_short k lc)
         (subst (λ l. Stands w p (c1 ++ (c2 ++ l))) (sym (append-nil c3)) there)
@@ -153,8 +160,10 @@ module _ (w : World) (known : ℕ → Bool) (e : ℕ → ℕ) where
         (on refl _ _ (record { knows = knows_three known e f g 6 a' b' _ t6 x.knows; five = x.five; six = refl; diff = x.diff }))))));
   }
 
-  same_in_words : (f g : LinearForm) (root : ℕ) (inner : List ℕ) (lanes residue width : ℕ) → known 55 ≡ true → IsForm f → IsForm g → AreKnown known f.terms → AreKnown known g.terms
-      → slice_index inner 0 < 2 ^ 30 → slice_index inner 1 < 2 ^ 30 → slice_index inner 2 < 2 ^ 30 → ArePassesKnown known inner → root < 2 ^ 31 → lanes < 2 ^ 31 → residue < 2 ^ 31
+  same_in_words : (f g : LinearForm) (root : ℕ) (inner : List ℕ) (lanes residue width : ℕ) → known 55 ≡ true → IsForm f → IsForm g
+      → AreKnown known f.terms → AreKnown known g.terms
+      → slice_index inner 0 < 2 ^ 30 → slice_index inner 1 < 2 ^ 30 → slice_index inner 2 < 2 ^ 30 → ArePassesKnown known inner
+      → root < 2 ^ 31 → lanes < 2 ^ 31 → residue < 2 ^ 31
       → (let a = value_of e f.constant f.terms in let b = value_of e g.constant g.terms in
       IsTest w (Known known e) (Known known e) (Known known e) (same_code f g root inner lanes residue width)
       (same_words (nat_lt 0 lanes) (nat_lt 0 residue) (difference a b) (size_word (difference a b)) (e 55) root (span_word e inner) lanes residue (pos width)))
@@ -230,19 +239,25 @@ divisor_small g ns d h = by_size (some_size g ns d.divides h)
     by_size (inr y) = let z = eq-zero_of_zero-dvd (d.greatest 0 y) in omega (arith, z)
 
 -- the passes that a shape needs are those of loops round its accesses
-pub pass_known : (known : ℕ → Bool) (a : Access) (place : ℕ) → AreRoundsKnown known a.form a.around → is_inner place ≡ true → nat_lt 0 (unsigned_abs (stride_in a place)) ≡ true → known (55 + place) ≡ true
+pub pass_known : (known : ℕ → Bool) (a : Access) (place : ℕ) → AreRoundsKnown known a.form a.around → is_inner place ≡ true
+    → nat_lt 0 (unsigned_abs (stride_in a place)) ≡ true → known (55 + place) ≡ true
 pass_known known a place has inner moves = by_first (slice_index a.around 1 == place) refl moves
   where
-    by_second : (t : Bool) → (slice_index a.around 2 == place) ≡ t → nat_lt 0 (unsigned_abs (cond t a.form.third (pos 0))) ≡ true → known (55 + place) ≡ true
+    by_second : (t : Bool) → (slice_index a.around 2 == place) ≡ t → nat_lt 0 (unsigned_abs (cond t a.form.third (pos 0))) ≡ true
+        → known (55 + place) ≡ true
     by_second true e m = let s = same_number _ place e in subst (λ n. known (55 + n) ≡ true) s (has.third (ap is_inner s ∙ inner))
     by_second false e m = absurd (cc)
 
-    by_first : (t : Bool) → (slice_index a.around 1 == place) ≡ t → nat_lt 0 (unsigned_abs (cond t a.form.second (cond (slice_index a.around 2 == place) a.form.third (pos 0)))) ≡ true → known (55 + place) ≡ true
+    by_first : (t : Bool) → (slice_index a.around 1 == place) ≡ t
+        → nat_lt 0 (unsigned_abs (cond t a.form.second (cond (slice_index a.around 2 == place) a.form.third (pos 0)))) ≡ true
+        → known (55 + place) ≡ true
     by_first true e m = let s = same_number _ place e in subst (λ n. known (55 + n) ≡ true) s (has.second (ap is_inner s ∙ inner))
     by_first false e m = by_second (slice_index a.around 2 == place) refl m
 
-passes_known : (known : ℕ → Bool) (a : Access) → AreRoundsKnown known a.form a.around → ArePassesKnown known (map unsigned_abs (inner_strides a))
-passes_known known a has = (λ m. pass_known known a 1 has refl m, λ m. pass_known known a 2 has refl m, λ m. pass_known known a 3 has refl m)
+passes_known : (known : ℕ → Bool) (a : Access) → AreRoundsKnown known a.form a.around
+    → ArePassesKnown known (map unsigned_abs (inner_strides a))
+passes_known known a has =
+    (λ m. pass_known known a 1 has refl m, λ m. pass_known known a 2 has refl m, λ m. pass_known known a 3 has refl m)
 
 -- what a term of the same shape has
 pub record IsSame (known : ℕ → Bool) (root : ℕ) (inner : List ℕ) (lanes residue width : ℕ) : Type 0 where
@@ -255,7 +270,8 @@ pub record IsSame (known : ℕ → Bool) (root : ℕ) (inner : List ℕ) (lanes 
   pub small_residue : residue < 2 ^ 30
   pub narrow : width ≤ 8
 
-shared_is : (known : ℕ → Bool) (a b : Access) (root : ℕ) (inner : List ℕ) (lanes residue width : ℕ) (c : Option ℤ) → AreRoundsKnown known a.form a.around → AreShared a b root inner lanes residue width c → AreSized root inner width
+shared_is : (known : ℕ → Bool) (a b : Access) (root : ℕ) (inner : List ℕ) (lanes residue width : ℕ) (c : Option ℤ)
+    → AreRoundsKnown known a.form a.around → AreShared a b root inner lanes residue width c → AreSized root inner width
     → IsSame known root inner lanes residue width
 shared_is known a b root inner lanes residue width c has h sized =
     let all : All (λ n. n < 2 ^ 30) (map unsigned_abs (inner_strides a)) = subst (All (λ n. n < 2 ^ 30)) h.inner sized.inner in
@@ -275,7 +291,8 @@ shared_is known a b root inner lanes residue width c has h sized =
     }
 
 -- the divisors of a term are within the limits
-pub divisors_small : (a b : Access) (t : Term) (root : ℕ) (inner : List ℕ) (lanes residue width : ℕ) (c : Option ℤ) → t ≡ Same root inner lanes residue width c → IsTermOf a b t → IsSized t → (lanes < 2 ^ 30) × (residue < 2 ^ 30)
+pub divisors_small : (a b : Access) (t : Term) (root : ℕ) (inner : List ℕ) (lanes residue width : ℕ) (c : Option ℤ)
+    → t ≡ Same root inner lanes residue width c → IsTermOf a b t → IsSized t → (lanes < 2 ^ 30) × (residue < 2 ^ 30)
 divisors_small a b t root inner lanes residue width c e is sized = limits (subst (IsTermOf a b) e is) (subst IsSized e sized)
   where
     limits : AreShared a b root inner lanes residue width c → AreSized root inner width → (lanes < 2 ^ 30) × (residue < 2 ^ 30)
@@ -290,11 +307,14 @@ divisors_small a b t root inner lanes residue width c e is sized = limits (subst
 each_low : (e : ℕ → ℕ) → All (λ n. n < 2 ^ 31) (last_from e) → (e 55 < 2 ^ 31) × (e 56 < 2 ^ 31) × (e 57 < 2 ^ 31) × (e 58 < 2 ^ 31)
 each_low e h = (h 0 0 (omega arith), h 1 0 (omega arith), h 2 0 (omega arith), h 3 0 (omega arith))
 
-same_is : (known : ℕ → Bool) (e : ℕ → ℕ) (a b : Access) (root : ℕ) (inner : List ℕ) (lanes residue width : ℕ) (c : Option ℤ) → IsForm a.form → IsForm b.form → IsSame known root inner lanes residue width → All (λ n. n < 2 ^ 31) (last_from e)
+same_is : (known : ℕ → Bool) (e : ℕ → ℕ) (a b : Access) (root : ℕ) (inner : List ℕ) (lanes residue width : ℕ) (c : Option ℤ) → IsForm a.form
+    → IsForm b.form → IsSame known root inner lanes residue width → All (λ n. n < 2 ^ 31) (last_from e)
     → start_value a.form (words e) < 2 ^ 31 → start_value b.form (words e) < 2 ^ 31
     → (let x = value_of e a.form.constant a.form.terms in let y = value_of e b.form.constant b.form.terms in
-    same_words (nat_lt 0 lanes) (nat_lt 0 residue) (difference x y) (size_word (difference x y)) (e 55) root (span_word e inner) lanes residue (pos width)
-    ≡ pair_test (Same root inner lanes residue width c) (box_of (last_from e) (place_of (words e) (last_from e) a) (place_of (words e) (last_from e) b)))
+    same_words (nat_lt 0 lanes) (nat_lt 0 residue) (difference x y) (size_word (difference x y)) (e 55) root
+    (span_word e inner) lanes residue (pos width)
+    ≡ pair_test (Same root inner lanes residue width c)
+    (box_of (last_from e) (place_of (words e) (last_from e) a) (place_of (words e) (last_from e) b)))
 unfolding place_of
 same_is known e a b root inner lanes residue width c fine fine' ok lasts low low' =
     let l = each_low e lasts in
@@ -303,10 +323,12 @@ same_is known e a b root inner lanes residue width c fine fine' ok lasts low low
     let v = start_value b.form (words e) in
     let xs : value_of e a.form.constant a.form.terms ≡ u = start_is e a.form fine ∙ sym (start_is_word e a.form) in
     let ys : value_of e b.form.constant b.form.terms ≡ v = start_is e b.form fine' ∙ sym (start_is_word e b.form) in
-    let t : ℕ → Bool = λ n. same_words (nat_lt 0 lanes) (nat_lt 0 residue) n (size_word n) (e 55) root (span_word e inner) lanes residue (pos width) in
+    let t : ℕ → Bool = λ n. same_words (nat_lt 0 lanes) (nat_lt 0 residue) n (size_word n) (e 55) root (span_word e inner) lanes residue
+    (pos width) in
     ap2 _ u _ v (λ x y. t (difference x y)) xs ys
     ∙ ap (λ n. same_words (nat_lt 0 lanes) (nat_lt 0 residue) (difference u v) (size_word (difference u v)) (e 55) root n lanes residue (pos width)) s.0
-    ∙ pair_words root lanes residue width u v inner c (box_of (last_from e) (place_of (words e) (last_from e) a) (place_of (words e) (last_from e) b)) (record {
+    ∙ pair_words root lanes residue width u v inner c
+    (box_of (last_from e) (place_of (words e) (last_from e) a) (place_of (words e) (last_from e) b)) (record {
       difference = refl;
       first = low;
       second = low';
@@ -318,16 +340,19 @@ same_is known e a b root inner lanes residue width c fine fine' ok lasts low low
       spans = s.1;
     })
 
-apart_is : (e : ℕ → ℕ) (a b : Access) → IsForm a.form → IsForm b.form → All (λ n. n < 2 ^ 31) (last_from e) → start_value a.form (words e) < 2 ^ 31 → start_value b.form (words e) < 2 ^ 31
+apart_is : (e : ℕ → ℕ) (a b : Access) → IsForm a.form → IsForm b.form → All (λ n. n < 2 ^ 31) (last_from e)
+    → start_value a.form (words e) < 2 ^ 31 → start_value b.form (words e) < 2 ^ 31
     → disjoint_words (least_word e a.form a.around) (end_word e a.form a.around (bytes_of a.width)) (least_word e b.form b.around) (end_word e b.form b.around (bytes_of b.width))
     ≡ pair_test Apart (box_of (last_from e) (place_of (words e) (last_from e) a) (place_of (words e) (last_from e) b))
 unfolding place_of
 apart_is e a b fine fine' lasts low low' =
-    disjoint_is _ _ _ _ (whole_range a (pos (start_value a.form (words e))) (last_from e)) (whole_range b (pos (start_value b.form (words e))) (last_from e))
+    disjoint_is _ _ _ _ (whole_range a (pos (start_value a.form (words e))) (last_from e))
+    (whole_range b (pos (start_value b.form (words e))) (last_from e))
     (least_signed e a fine lasts low) (end_signed e a fine lasts low) (least_signed e b fine' lasts low') (end_signed e b fine' lasts low')
 
 -- the words of two accesses go on where they are told apart, and to the open target where they are not
-pub pair_law : (w : World) (known : ℕ → Bool) (e : ℕ → ℕ) (a b : Access) (t : Term) → IsForm a.form → IsForm b.form → AreRoundsKnown known a.form a.around → AreRoundsKnown known b.form b.around → IsTermOf a b t → IsSized t
+pub pair_law : (w : World) (known : ℕ → Bool) (e : ℕ → ℕ) (a b : Access) (t : Term) → IsForm a.form → IsForm b.form
+    → AreRoundsKnown known a.form a.around → AreRoundsKnown known b.form b.around → IsTermOf a b t → IsSized t
     → All (λ n. n < 2 ^ 31) (last_from e) → start_value a.form (words e) < 2 ^ 31 → start_value b.form (words e) < 2 ^ 31
     → IsTest w (Known known e) (Known known e) (Known known e) (pair_code a b t) (pair_test t (box_of (last_from e) (place_of (words e) (last_from e) a) (place_of (words e) (last_from e) b)))
 pair_law w known e a b (Same root inner lanes residue width c) fine fine' has has' term sized lasts low low' =
@@ -339,4 +364,5 @@ pair_law w known e a b (Same root inner lanes residue width c) fine fine' has ha
     (same_is known e a b root inner lanes residue width c fine fine' ok lasts low low')
     (same_in_words w known e a.form b.form root inner lanes residue width has.root fine fine' has.terms has'.terms ok.first ok.second ok.third ok.passes (omega (arith, r)) (omega (arith, l)) (omega (arith, g)))
 pair_law w known e a b Apart fine fine' has has' term sized lasts low low' =
-    same_test w (Known known e) (Known known e) (Known known e) (ranges_code a b) _ _ (apart_is e a b fine fine' lasts low low') (ranges_test w known e a b fine fine' has has')
+    same_test w (Known known e) (Known known e) (Known known e) (ranges_code a b) _ _ (apart_is e a b fine fine' lasts low low')
+    (ranges_test w known e a b fine fine' has has')

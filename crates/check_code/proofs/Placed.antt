@@ -28,20 +28,27 @@ one_more known new h below loc = by_tests (known loc) (loc == new) refl refl
     by_tests false true a b c = let e = same_number loc new b in omega (arith, e, below)
     by_tests false false a b c = absurd (cc)
 
-pub root_placed : (m : List Area) (known : ℕ → Bool) (e : ℕ → ℕ) (t : Trip) (words : List ℕ) → IsTrip t → IsTripKnown known t → AreInReach known → ((p : ℕ) → root_of t e ≡ Some p → e 55 ≡ p - 1) → readings words ≡ somes (root_code t)
+pub root_placed : (m : List Area) (known : ℕ → Bool) (e : ℕ → ℕ) (t : Trip) (words : List ℕ) → IsTrip t → IsTripKnown known t
+    → AreInReach known → ((p : ℕ) → root_of t e ≡ Some p → e 55 ≡ p - 1) → readings words ≡ somes (root_code t)
     → Checked m known (with_known known 55) e words (root_holds t e) []
 root_placed m known e t words ok k reach value is =
     checked m known (also known 55) e words (root_code t) (root_holds t e) [] is (one_more known 55 reach (omega arith))
-    (λ w same. lifted w (Known known e) (Known known e) (Known (also known 55) e) (root_code t) (root_holds t e) (λ l. root_law (at w l) known e t ok k value))
+    (λ w same. lifted w (Known known e) (Known known e) (Known (also known 55) e) (root_code t) (root_holds t e)
+    (λ l. root_law (at w l) known e t ok k value))
 
-pub inner_placed : (m : List Area) (known : ℕ → Bool) (e : ℕ → ℕ) (t : Trip) (k : ℕ) (words : List ℕ) → IsTrip t → IsTripKnown known t → AreInReach known → k < 3 → ((n : ℕ) → passes_in t e ≡ Some n → e (56 + k) ≡ n - 1) → readings words ≡ somes (inner_code (24 + k) t)
+pub inner_placed : (m : List Area) (known : ℕ → Bool) (e : ℕ → ℕ) (t : Trip) (k : ℕ) (words : List ℕ) → IsTrip t → IsTripKnown known t
+    → AreInReach known → k < 3 → ((n : ℕ) → passes_in t e ≡ Some n → e (56 + k) ≡ n - 1) → readings words ≡ somes (inner_code (24 + k) t)
     → Checked m known (with_known known (56 + k)) e words (inner_holds t e) []
 inner_placed m known e t k words ok has reach few value is =
-    checked m known (also known (56 + k)) e words (inner_code (24 + k) t) (inner_holds t e) [] is (one_more known (56 + k) reach (omega (arith, few)))
-    (λ w same. lifted w (Known known e) (Known known e) (Known (also known (56 + k)) e) (inner_code (24 + k) t) (inner_holds t e) (λ l. inner_law (at w l) known e (56 + k) (24 + k) t (inner_slot k few) ok has value))
+    checked m known (also known (56 + k)) e words (inner_code (24 + k) t) (inner_holds t e) [] is
+    (one_more known (56 + k) reach (omega (arith, few)))
+    (λ w same. lifted w (Known known e) (Known known e) (Known (also known (56 + k)) e) (inner_code (24 + k) t) (inner_holds t e)
+    (λ l. inner_law (at w l) known e (56 + k) (24 + k) t (inner_slot k few) ok has value))
 
-pub duty_placed : (m : List Area) (known : ℕ → Bool) (e : ℕ → ℕ) (d : Duty) (words : List ℕ) → IsForm d.form → AreRoundsKnown known d.form d.around → AreInReach known → All (λ n. n < 2 ^ 31) (last_from e) → readings words ≡ somes (duty_code d)
+pub duty_placed : (m : List Area) (known : ℕ → Bool) (e : ℕ → ℕ) (d : Duty) (words : List ℕ) → IsForm d.form
+    → AreRoundsKnown known d.form d.around → AreInReach known → All (λ n. n < 2 ^ 31) (last_from e) → readings words ≡ somes (duty_code d)
     → Checked m known known e words (duty_fits (as_integers e) (last_from e) d) []
 duty_placed m known e d words fine has reach low is =
     checked m known known e words (duty_code d) (duty_fits (as_integers e) (last_from e) d) [] is reach
-    (λ w same. lifted w (Known known e) (Known known e) (Known known e) (duty_code d) (duty_fits (as_integers e) (last_from e) d) (λ l. duty_law (at w l) known e d fine has low))
+    (λ w same. lifted w (Known known e) (Known known e) (Known known e) (duty_code d) (duty_fits (as_integers e) (last_from e) d)
+    (λ l. duty_law (at w l) known e d fine has low))

@@ -63,7 +63,8 @@ simple_temps (Base (Upper Lui rd imm) ∷ is) h = (tt, simple_temps is (second_o
 simple_temps (Get rd slot ∷ is) h = (tt, simple_temps is (second_of (temp (Get rd slot)) (all_temps is) h))
 simple_temps (i ∷ is) h = absurd (cc)
 
-pub knows_temps : (known : ℕ → Bool) (e : ℕ → ℕ) (is : List XInstr) (f g : ℕ → ℕ) → all_temps is ≡ true → Knows known e f g → Knows known e (all_registers is f g) (all_slots is f g)
+pub knows_temps : (known : ℕ → Bool) (e : ℕ → ℕ) (is : List XInstr) (f g : ℕ → ℕ) → all_temps is ≡ true → Knows known e f g
+    → Knows known e (all_registers is f g) (all_slots is f g)
 knows_temps known e [] f g h k = k
 knows_temps known e (Base (Alu op rd rs1 rs2) ∷ is) f g h k =
     knows_temps known e is _ g (second_of (temp (Base (Alu op rd rs1 rs2))) (all_temps is) h)
@@ -80,7 +81,8 @@ knows_temps known e (Get rd slot ∷ is) f g h k =
 knows_temps known e (i ∷ is) f g h k = absurd (cc)
 
 -- straight code over temporaries
-pub temps_test : (w : World) (z b c : State) (is : List XInstr) → all_temps is ≡ true → ((f g : ℕ → ℕ) → b f g → c (all_registers is f g) (all_slots is f g)) → IsTest w z b c is true
+pub temps_test : (w : World) (z b c : State) (is : List XInstr) → all_temps is ≡ true
+    → ((f g : ℕ → ℕ) → b f g → c (all_registers is f g) (all_slots is f g)) → IsTest w z b c is true
 temps_test w z b c is h leads = straight_test w z b c is (simple_temps is h) leads
 
 -- a function of two or three numbers at equal ones
@@ -91,7 +93,8 @@ pub ap3 : {X : Type 0} (a a' b b' c c' : ℕ) (k : ℕ → ℕ → ℕ → X) �
 ap3 a a' b b' c c' k p q r = ap (λ x. k x b c) p ∙ ap (λ x. k a' x c) q ∙ ap (k a' b') r
 
 -- less has to be known behind it
-pub weaker_after : (w : World) (z b c c' : State) (is : List XInstr) (t : Bool) → IsTest w z b c is t → ((f g : ℕ → ℕ) → c f g → c' f g) → IsTest w z b c' is t
+pub weaker_after : (w : World) (z b c c' : State) (is : List XInstr) (t : Bool) → IsTest w z b c is t → ((f g : ℕ → ℕ) → c f g → c' f g)
+    → IsTest w z b c' is t
 weaker_after w z b c c' is t h k = record { by = λ p f g x has on off. h.by p f g x has (λ y f' g' q. on y f' g' (k f' g' q)) off }
 
 -- the registers that sums are worked out in
@@ -108,7 +111,8 @@ pub t28 : Target 28
 t28 = record { nonzero = refl; not30 = refl; not31 = refl; temporary = record { slot = 19; is = refl } }
 
 -- FORM
-pub formed : (w : World) (known : ℕ → Bool) (e : ℕ → ℕ) (r : ℕ) → Target r → (c : ℤ) (ts : List EntryTerm) (b after : State) → IsShort c → TermsOk known ts
+pub formed : (w : World) (known : ℕ → Bool) (e : ℕ → ℕ) (r : ℕ) → Target r → (c : ℤ) (ts : List EntryTerm) (b after : State) → IsShort c
+    → TermsOk known ts
     → ((f g : ℕ → ℕ) → b f g → Knows known e f g) → ((f g : ℕ → ℕ) (a' b' : ℕ) → b f g → after (three f r a' b' (value_of e c ts)) g)
     → IsTest w (Known known e) b after (terms_code r c ts) true
 formed w known e r t c ts b after short ok knows leads = record {
@@ -116,9 +120,12 @@ formed w known e r t c ts b after short ok knows leads = record {
 }
 
 -- NEED
-pub needed : (w : World) (z b : State) (op : BranchOp) (r s : ℕ) (t : Bool) → ((f g : ℕ → ℕ) → b f g → taken op (read f r) (read f s) ≡ t) → ((f g : ℕ → ℕ) → b f g → z f g) → IsTest w z b b (need_code op r s) t
+pub needed : (w : World) (z b : State) (op : BranchOp) (r s : ℕ) (t : Bool) → ((f g : ℕ → ℕ) → b f g → taken op (read f r) (read f s) ≡ t)
+    → ((f g : ℕ → ℕ) → b f g → z f g) → IsTest w z b b (need_code op r s) t
 needed w z b op r s t is weaker = record {
-  by = λ p f g x has on off. need_law w p f g op r s has (λ y. on (sym (is f g x) ∙ y) f g x) (λ y. off (sym (is f g x) ∙ y) f g (weaker f g x));
+  by =
+      λ p f g x has on off. need_law w p f g op r s has (λ y. on (sym (is f g x) ∙ y) f g x)
+      (λ y. off (sym (is f g x) ∙ y) f g (weaker f g x));
 }
 
 -- the words that LO and HI leave, where the last turn numbers are these
@@ -144,8 +151,10 @@ abbrev pub from_slots : (ℕ → ℕ) → List ℕ → ℕ → ℕ
 from_slots g slots k = g (slice_index slots k)
 
 -- LO
-pub lowered : (w : World) (known : ℕ → Bool) (e : ℕ → ℕ) (r : ℕ) → Target r → (form : LinearForm) (slots : List ℕ) (v : ℕ) (b after : State) → IsForm form → TermsOk known form.terms
-    → ((f g : ℕ → ℕ) → b f g → Knows known e f g) → ((f g : ℕ → ℕ) → b f g → low_word e form (from_slots g slots) ≡ v) → ((f g : ℕ → ℕ) (a' b' : ℕ) → b f g → after (three f r a' b' v) g)
+pub lowered : (w : World) (known : ℕ → Bool) (e : ℕ → ℕ) (r : ℕ) → Target r → (form : LinearForm) (slots : List ℕ) (v : ℕ) (b after : State)
+    → IsForm form → TermsOk known form.terms
+    → ((f g : ℕ → ℕ) → b f g → Knows known e f g) → ((f g : ℕ → ℕ) → b f g → low_word e form (from_slots g slots) ≡ v)
+    → ((f g : ℕ → ℕ) (a' b' : ℕ) → b f g → after (three f r a' b' v) g)
     → IsTest w (Known known e) b after (low_code r form slots) true
 lowered w known e r t form slots v b after fine ok knows value leads = record {
   by = λ p f g x has on off.
@@ -154,7 +163,8 @@ lowered w known e r t form slots v b after fine ok knows value leads = record {
       let c1 = fall_code r form.first (slice_index slots 0) in
       let c2 = fall_code r form.second (slice_index slots 1) in
       let c3 = fall_code r form.third (slice_index slots 2) in
-      form_law w known e f g r form.constant form.terms p t (knows f g x) (constant_short form.constant fine.bounded.constant) ok (stands_front w p c0 (c1 ++ (c2 ++ c3)) has)
+      form_law w known e f g r form.constant form.terms p t (knows f g x) (constant_short form.constant fine.bounded.constant) ok
+      (stands_front w p c0 (c1 ++ (c2 ++ c3)) has)
       (λ a1 b1. spans_law w f g r t form.first form.second form.third (slice_index slots 0) (slice_index slots 1) (slice_index slots 2) (int_lt form.first (pos 0)) (int_lt form.second (pos 0)) (int_lt form.third (pos 0))
       [] (behind p c0) a1 b1 (value_of e form.constant form.terms) st.first st.second st.third
       (subst (λ l. Stands w (behind p c0) (c1 ++ (c2 ++ l))) (sym (append-nil c3)) (stands_back w p c0 (c1 ++ (c2 ++ c3)) has))
@@ -163,7 +173,8 @@ lowered w known e r t form slots v b after fine ok knows value leads = record {
 }
 
 -- HI
-pub raised : (w : World) (known : ℕ → Bool) (e : ℕ → ℕ) (r : ℕ) → Target r → (form : LinearForm) (slots : List ℕ) (size v : ℕ) (b after : State) → IsForm form → TermsOk known form.terms
+pub raised : (w : World) (known : ℕ → Bool) (e : ℕ → ℕ) (r : ℕ) → Target r
+    → (form : LinearForm) (slots : List ℕ) (size v : ℕ) (b after : State) → IsForm form → TermsOk known form.terms
     → ((f g : ℕ → ℕ) → b f g → Knows known e f g) → ((f g : ℕ → ℕ) → b f g → raised_word e form (from_slots g slots) ≡ v)
     → ((f g : ℕ → ℕ) (a' b' : ℕ) → b f g → after (put (three f r a' b' v) r ((v + size) % 2 ^ 64)) g)
     → IsTest w (Known known e) b after (high_code r form slots size) true
@@ -176,8 +187,10 @@ raised w known e r t form slots size v b after fine ok knows value leads = recor
       let c2 = rise_code r form.second (slice_index slots 1) in
       let c3 = rise_code r form.third (slice_index slots 2) in
       let p3 = behind (behind (behind (behind p c0) c1) c2) c3 in
-      let place : suc p3 ≡ behind p (high_code r form slots size) = sym (behind-append (behind (behind (behind p c0) c1) c2) c3 last) ∙ far_place p c0 c1 c2 (c3 ++ last) in
-      form_law w known e f g r form.constant form.terms p t (knows f g x) (constant_short form.constant fine.bounded.constant) ok (stands_front w p c0 (c1 ++ (c2 ++ (c3 ++ last))) has)
+      let place : suc p3 ≡ behind p (high_code r form slots size) = sym (behind-append (behind (behind (behind p c0) c1) c2) c3 last)
+      ∙ far_place p c0 c1 c2 (c3 ++ last) in
+      form_law w known e f g r form.constant form.terms p t (knows f g x) (constant_short form.constant fine.bounded.constant) ok
+      (stands_front w p c0 (c1 ++ (c2 ++ (c3 ++ last))) has)
       (λ a1 b1. spans_law w f g r t form.first form.second form.third (slice_index slots 0) (slice_index slots 1) (slice_index slots 2) (int_lt (pos 0) form.first) (int_lt (pos 0) form.second) (int_lt (pos 0) form.third)
       last (behind p c0) a1 b1 (value_of e form.constant form.terms) st.first st.second st.third
       (stands_back w p c0 (c1 ++ (c2 ++ (c3 ++ last))) has)
@@ -203,7 +216,8 @@ twice : (t : Bool) (x y z : ℕ) → cond t x (cond t y z) ≡ cond t x z
 twice true x y z = refl
 twice false x y z = refl
 
-pub addressed : (w : World) (known : ℕ → Bool) (e : ℕ → ℕ) (r : ℕ) → Target r → (base : Option ℕ) (offset : ℤ) (b after : State) → AddressOk known base offset
+pub addressed : (w : World) (known : ℕ → Bool) (e : ℕ → ℕ) (r : ℕ) → Target r → (base : Option ℕ) (offset : ℤ) (b after : State)
+    → AddressOk known base offset
     → ((f g : ℕ → ℕ) → b f g → Knows known e f g) → ((f g : ℕ → ℕ) → b f g → after (put f r (address_word e base offset)) g)
     → IsTest w (Known known e) b after (address_by_code r base offset) true
 addressed w known e r t None offset b after ok knows leads = record {

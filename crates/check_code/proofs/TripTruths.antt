@@ -39,12 +39,15 @@ not_same : (a b : ℕ) → (a == b) ≡ false → a ≢ b
 not_same a b h e = let c : (b == b) ≡ false = subst (λ k. (k == b) ≡ false) e h in absurd (grind (arith, nat_tests))
 
 -- a difference; the least number cannot be negated, and is too far from 0 for any step
-differ_told : (v : ℕ) (step : ℤ) → is_small step ≡ true → step ≢ pos 0 → v < 2 ^ 64 → Told (number Differ true (reading true v) step (pos 0)) (differ_holds v step) (differ_word v step)
+differ_told : (v : ℕ) (step : ℤ) → is_small step ≡ true → step ≢ pos 0 → v < 2 ^ 64
+    → Told (number Differ true (reading true v) step (pos 0)) (differ_holds v step) (differ_word v step)
 differ_told v step small some below = by_least (v == 2 ^ 63) refl
   where
-    by_least : (t : Bool) → (v == 2 ^ 63) ≡ t → Told (number Differ true (reading true v) step (pos 0)) (differ_holds v step) (differ_word v step)
+    by_least : (t : Bool) → (v == 2 ^ 63) ≡ t
+        → Told (number Differ true (reading true v) step (pos 0)) (differ_holds v step) (differ_word v step)
     by_least true h =
-        subst (λ x. Told (number Differ true (reading true x) step (pos 0)) (differ_holds x step) (differ_word x step)) (sym (same_number v (2 ^ 63) h))
+        subst (λ x. Told (number Differ true (reading true x) step (pos 0)) (differ_holds x step) (differ_word x step))
+        (sym (same_number v (2 ^ 63) h))
         (far (λ n e. least_number step n small some e) (λ e. least_word step small some (small_short step small) e))
     by_least false h = same (differ_words v step (small_short step small) some below (not_same v (2 ^ 63) h))
 
@@ -58,15 +61,20 @@ order_told e relation signed start bound step a b h q x y is =
     ∙ ap (λ n. number relation signed (reading signed a) step (reading signed n)) (sym y)
     ∙ is)
 
-told_by : (e : ℕ → ℕ) (relation : Relation) (signed : Bool) (start bound : LinearForm) (step : ℤ) → IsForm start → IsForm bound → is_small step ≡ true → approaches relation step ≡ true
+told_by : (e : ℕ → ℕ) (relation : Relation) (signed : Bool) (start bound : LinearForm) (step : ℤ) → IsForm start → IsForm bound
+    → is_small step ≡ true → approaches relation step ≡ true
     → (relation ≡ Differ → (signed ≡ true) × (bound ≡ pure (pos 0)))
-    → Told (number relation signed (first_value signed start (as_integers e)) step (first_value signed bound (as_integers e))) (holds_by e relation signed start bound step) (word_by e relation signed start bound step)
+    → Told (number relation signed (first_value signed start (as_integers e)) step (first_value signed bound (as_integers e)))
+    (holds_by e relation signed start bound step) (word_by e relation signed start bound step)
 told_by e Differ signed start bound step fs fb small toward differs =
     let d = differs refl in
     let t = differ_told (start_word e start) step small (not_zero step toward) (sum_below e start fs) in
-    let u = subst (λ n. Told (number Differ true (reading true n) step (pos 0)) (differ_holds (start_word e start) step) (differ_word (start_word e start) step)) (start_is e start fs) t in
-    let v = subst (λ g. Told (number Differ true (first_value true start (as_integers e)) step (first_value true g (as_integers e))) (differ_holds (start_word e start) step) (differ_word (start_word e start) step)) (sym d.1) u in
-    subst (λ s. Told (number Differ s (first_value s start (as_integers e)) step (first_value s bound (as_integers e))) (differ_holds (start_word e start) step) (differ_word (start_word e start) step)) (sym d.0) v
+    let u = subst (λ n. Told (number Differ true (reading true n) step (pos 0)) (differ_holds (start_word e start) step)
+    (differ_word (start_word e start) step)) (start_is e start fs) t in
+    let v = subst (λ g. Told (number Differ true (first_value true start (as_integers e)) step (first_value true g (as_integers e)))
+    (differ_holds (start_word e start) step) (differ_word (start_word e start) step)) (sym d.1) u in
+    subst (λ s. Told (number Differ s (first_value s start (as_integers e)) step (first_value s bound (as_integers e)))
+    (differ_holds (start_word e start) step) (differ_word (start_word e start) step)) (sym d.0) v
 told_by e Less signed start bound step fs fb small toward differs =
     order_told e Less signed start bound step (start_word e start) (start_word e bound) _ _ (start_is e start fs) (start_is e bound fb)
     (trip_words Less signed (start_word e start) (start_word e bound) step tt toward (sum_below e start fs) (sum_below e bound fb))
@@ -80,7 +88,9 @@ told_by e AtLeast signed start bound step fs fb small toward differs =
     order_told e AtLeast signed start bound step (start_word e start) (start_word e bound) _ _ (start_is e start fs) (start_is e bound fb)
     (trip_words AtLeast signed (start_word e start) (start_word e bound) step tt toward (sum_below e start fs) (sum_below e bound fb))
 
-told : (e : ℕ → ℕ) (t : Trip) → IsTrip t → Told (number_of_stays t (as_integers e)) (holds_by e t.relation t.signed t.start t.bound t.step) (word_by e t.relation t.signed t.start t.bound t.step)
+told : (e : ℕ → ℕ) (t : Trip) → IsTrip t
+    → Told (number_of_stays t (as_integers e)) (holds_by e t.relation t.signed t.start t.bound t.step)
+    (word_by e t.relation t.signed t.start t.bound t.step)
 told e t ok = told_by e t.relation t.signed t.start t.bound t.step ok.start ok.bound ok.small ok.toward ok.differs
 
 -- the limits of turns
@@ -106,17 +116,21 @@ no_pass q h = rw (above q h) refl
 some_root : (q : ℕ) → is_some (root_turns (up_to (2 ^ 31) (Some q))) ≡ (nat_le 16 q && nat_le q (2 ^ 31))
 some_root q = by_tests (nat_le 16 q) (nat_le q (2 ^ 31)) refl refl
   where
-    by_tests : (t u : Bool) → nat_le 16 q ≡ t → nat_le q (2 ^ 31) ≡ u → is_some (root_turns (up_to (2 ^ 31) (Some q))) ≡ (nat_le 16 q && nat_le q (2 ^ 31))
+    by_tests : (t u : Bool) → nat_le 16 q ≡ t → nat_le q (2 ^ 31) ≡ u
+        → is_some (root_turns (up_to (2 ^ 31) (Some q))) ≡ (nat_le 16 q && nat_le q (2 ^ 31))
     by_tests true true a b = rw (a, b) (rw a refl)
     by_tests true false a b = rw (a, b) refl
     by_tests false true a b = rw (a, b) (rw a refl)
     by_tests false false a b = rw (a, b) refl
 
 -- the words that tell the root's turns
-root_is : (o : Option ℕ) (holds : Bool) (q : ℕ) → Told o holds q → (holds && (taken Bge q 16 && taken Bge (2 ^ 31) q)) ≡ is_some (root_turns (up_to (2 ^ 31) o))
-root_is o holds q (same e) = subst (λ x. (holds && (taken Bge q 16 && taken Bge (2 ^ 31) q)) ≡ is_some (root_turns (up_to (2 ^ 31) x))) (sym e) (by_holds holds)
+root_is : (o : Option ℕ) (holds : Bool) (q : ℕ) → Told o holds q
+    → (holds && (taken Bge q 16 && taken Bge (2 ^ 31) q)) ≡ is_some (root_turns (up_to (2 ^ 31) o))
+root_is o holds q (same e) =
+    subst (λ x. (holds && (taken Bge q 16 && taken Bge (2 ^ 31) q)) ≡ is_some (root_turns (up_to (2 ^ 31) x))) (sym e) (by_holds holds)
   where
-    by_holds : (t : Bool) → (t && (taken Bge q 16 && taken Bge (2 ^ 31) q)) ≡ is_some (root_turns (up_to (2 ^ 31) (if t then Some q else None)))
+    by_holds : (t : Bool)
+        → (t && (taken Bge q 16 && taken Bge (2 ^ 31) q)) ≡ is_some (root_turns (up_to (2 ^ 31) (if t then Some q else None)))
     by_holds true = within_is q ∙ sym (some_root q)
     by_holds false = refl
 root_is o holds q (far a b) = left holds b ∙ sym (right o a)
@@ -130,8 +144,10 @@ root_is o holds q (far a b) = left holds b ∙ sym (right o a)
     left false b = refl
 
 -- the number that they tell
-root_value : (o : Option ℕ) (holds : Bool) (q : ℕ) → Told o holds q → holds ≡ true → (taken Bge q 16 && taken Bge (2 ^ 31) q) ≡ true → root_turns (up_to (2 ^ 31) o) ≡ Some q
-root_value o holds q (same e) h k = ap (λ x. root_turns (up_to (2 ^ 31) x)) (e ∙ ap (λ t. if t then Some q else None) h) ∙ taken_root q (sym (within_is q) ∙ k)
+root_value : (o : Option ℕ) (holds : Bool) (q : ℕ) → Told o holds q → holds ≡ true → (taken Bge q 16 && taken Bge (2 ^ 31) q) ≡ true
+    → root_turns (up_to (2 ^ 31) o) ≡ Some q
+root_value o holds q (same e) h k =
+    ap (λ x. root_turns (up_to (2 ^ 31) x)) (e ∙ ap (λ t. if t then Some q else None) h) ∙ taken_root q (sym (within_is q) ∙ k)
   where
     taken_root : (q : ℕ) → (nat_le 16 q && nat_le q (2 ^ 31)) ≡ true → root_turns (up_to (2 ^ 31) (Some q)) ≡ Some q
     taken_root q k = by_tests (nat_le 16 q) (nat_le q (2 ^ 31)) refl refl k
@@ -171,8 +187,10 @@ passes_is o holds q (far a b) = left holds b ∙ sym (right o a)
     left true b = not_below q (b refl)
     left false b = refl
 
-passes_value : (o : Option ℕ) (holds : Bool) (q : ℕ) → Told o holds q → holds ≡ true → nat_lt q (2 ^ 31) ≡ true → passes_of (up_to (2 ^ 31) o) ≡ Some (suc q)
-passes_value o holds q (same e) h k = ap (λ x. passes_of (up_to (2 ^ 31) x)) (e ∙ ap (λ t. if t then Some q else None) h) ∙ rw (below q k) (rw k refl)
+passes_value : (o : Option ℕ) (holds : Bool) (q : ℕ) → Told o holds q → holds ≡ true → nat_lt q (2 ^ 31) ≡ true
+    → passes_of (up_to (2 ^ 31) o) ≡ Some (suc q)
+passes_value o holds q (same e) h k =
+    ap (λ x. passes_of (up_to (2 ^ 31) x)) (e ∙ ap (λ t. if t then Some q else None) h) ∙ rw (below q k) (rw k refl)
 passes_value o holds q (far a b) h k = absurd (let x = not_below q (b h) in cc)
 
 few_is : (t : Trip) (z : ℕ → ℤ) → few_stays t z ≡ up_to (2 ^ 31) (number_of_stays t z)
@@ -216,7 +234,8 @@ inner_slot (suc (suc zero)) h = record { is = refl; back = slot_26 }
 inner_slot (suc (suc (suc k))) h = absurd (omega (arith, h))
 
 -- the turns of the root
-pub root_law : (w : World) (known : ℕ → Bool) (e : ℕ → ℕ) (t : Trip) → IsTrip t → IsTripKnown known t → ((p : ℕ) → root_of t e ≡ Some p → e 55 ≡ p - 1)
+pub root_law : (w : World) (known : ℕ → Bool) (e : ℕ → ℕ) (t : Trip) → IsTrip t → IsTripKnown known t
+    → ((p : ℕ) → root_of t e ≡ Some p → e 55 ≡ p - 1)
     → IsTest w (Known known e) (Known known e) (Known (also known 55) e) (root_code t) (root_holds t e)
 root_law w known e t ok k value =
     let z = Known known e in
@@ -226,13 +245,16 @@ root_law w known e t ok k value =
     let within = taken Bge q 16 && taken Bge (2 ^ 31) q in
     let is = told e t ok in
     let last = Known (also known 55) e in
-    same_test w z z last (root_code t) (holds && within) (root_holds t e) (root_is o holds q is ∙ ap (λ x. is_some (root_turns x)) (sym (few_is t (as_integers e))))
+    same_test w z z last (root_code t) (holds && within) (root_holds t e)
+    (root_is o holds q is ∙ ap (λ x. is_some (root_turns x)) (sym (few_is t (as_integers e))))
     (both w z z (With 5 q z) last (trip_code t) last_turn_code holds within (trip_law w known e t ok k)
     (λ h. last_turn_law w known e q
-    (λ i. one_less q (sym (within_is q) ∙ i) ∙ sym (value q (ap root_turns (few_is t (as_integers e)) ∙ root_value o holds q is h i))) root_slot))
+    (λ i. one_less q (sym (within_is q) ∙ i) ∙ sym (value q (ap root_turns (few_is t (as_integers e)) ∙ root_value o holds q is h i)))
+    root_slot))
 
 -- the passes of an inner loop
-pub inner_law : (w : World) (known : ℕ → Bool) (e : ℕ → ℕ) (new slot : ℕ) (t : Trip) → Slot new slot → IsTrip t → IsTripKnown known t → ((n : ℕ) → passes_in t e ≡ Some n → e new ≡ n - 1)
+pub inner_law : (w : World) (known : ℕ → Bool) (e : ℕ → ℕ) (new slot : ℕ) (t : Trip) → Slot new slot → IsTrip t → IsTripKnown known t
+    → ((n : ℕ) → passes_in t e ≡ Some n → e new ≡ n - 1)
     → IsTest w (Known known e) (Known known e) (Known (also known new) e) (inner_code slot t) (inner_holds t e)
 inner_law w known e new slot t at ok k value =
     let z = Known known e in
@@ -241,6 +263,8 @@ inner_law w known e new slot t at ok k value =
     let q = word_by e t.relation t.signed t.start t.bound t.step in
     let is = told e t ok in
     let last = Known (also known new) e in
-    same_test w z z last (inner_code slot t) (holds && nat_lt q (2 ^ 31)) (inner_holds t e) (passes_is o holds q is ∙ ap (λ x. is_some (passes_of x)) (sym (few_is t (as_integers e))))
+    same_test w z z last (inner_code slot t) (holds && nat_lt q (2 ^ 31)) (inner_holds t e)
+    (passes_is o holds q is ∙ ap (λ x. is_some (passes_of x)) (sym (few_is t (as_integers e))))
     (both w z z (With 5 q z) last (trip_code t) (last_pass_code slot) holds (nat_lt q (2 ^ 31)) (trip_law w known e t ok k)
-    (λ h. last_pass_law w known e q new slot at (λ i. sym (one_back q) ∙ sym (value (suc q) (ap passes_of (few_is t (as_integers e)) ∙ passes_value o holds q is h i)))))
+    (λ h. last_pass_law w known e q new slot at
+    (λ i. sym (one_back q) ∙ sym (value (suc q) (ap passes_of (few_is t (as_integers e)) ∙ passes_value o holds q is h i)))))

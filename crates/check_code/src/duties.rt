@@ -3,8 +3,9 @@ ghost use Rattle.stub_laws.specs.Code.{Appended};
 ghost use Rattle.check_code.specs.DutyCode.{short_code, shorts_code, duty_code};
 
 use crate::macros::{push_high, push_low};
-use crate::numbered::{form, imm, need, number};
+use crate::numbered::{form, need, number};
 use crate::rounds::{own_form, own_slots};
+use crate::steps::push_immediate;
 use loop_data::Duty;
 use rv64_decode::{BranchOp, ImmOp, Reg};
 use std::alloc::AllocError;
@@ -18,7 +19,7 @@ const GREATEST: i64 = 0x7FFF_FFFF;
 fn push_short(code: &mut Vec<u32>) -> Result<(), AllocError>
     ensures { IfOk result (λ u. Appended code.old.items code.new.items short_code) }
 {
-    imm(code, ImmOp::Addiw, 6, 5, 0)?;
+    push_immediate(code, ImmOp::Addiw, 6, 5, 0)?;
     need(code, BranchOp::Beq, 5, 6)?;
     Ok(())
 }

@@ -1,6 +1,8 @@
 //! The words that a loop's check is written as, piece by piece, and what each piece does where one hart runs it.
 #![tactic(auto)]
 
+#[cfg(test)]
+mod access_rows;
 pub mod accesses;
 pub mod cells;
 pub mod duties;

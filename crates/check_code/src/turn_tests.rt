@@ -125,6 +125,7 @@ fn turns_of_the_root_are_told(rt: HostRuntime) -> Result<(), Fail> {
         if let Some(trip) = trip(relation, signed, step) {
             push_root(&mut code, &trip)?;
         }
+        assert!(rt; code.len() < 90);
         let end = code.len() as u64;
         aim(code.as_mut_slice(), 90);
         let (mut regs, mut slots) = entry();
@@ -156,6 +157,7 @@ fn passes_are_told(rt: HostRuntime) -> Result<(), Fail> {
         if let Some(trip) = trip(relation, signed, step) {
             push_inner(&mut code, 25, &trip)?;
         }
+        assert!(rt; code.len() < 90);
         let end = code.len() as u64;
         aim(code.as_mut_slice(), 90);
         let (mut regs, mut slots) = entry();
@@ -212,6 +214,7 @@ fn duties_are_met_up_to_their_limits(rt: HostRuntime) -> Result<(), Fail> {
             };
             push_duty(&mut code, &duty)?;
         }
+        assert!(rt; code.len() < 90);
         let end = code.len() as u64;
         aim(code.as_mut_slice(), 90);
         let (mut regs, mut slots) = entry();

@@ -4,7 +4,8 @@ ghost use Rattle.stub_laws.specs.Code.{Appended};
 ghost use Rattle.check_numbers.specs.TripWords.{is_strict, is_up, branch_of, swapped, side};
 ghost use Rattle.check_code.specs.TurnCode.{difference_code, gap_code, less_code, end_code, count_code, counted_code, order_code, trip_code, last_turn_code, last_pass_code, root_code, inner_code};
 
-use crate::numbered::{alu, branch, form, imm, need, number, put};
+use crate::numbered::{form, need, number, put};
+use crate::steps::{push_immediate, push_operation, push_over};
 use linear_forms::Form;
 use loop_data::{Relation, Trip};
 use rv64_decode::{AluOp, BranchOp, ImmOp};
@@ -62,10 +63,10 @@ fn push_difference(code: &mut Vec<u32>, f: &Form, step: i64) -> Result<(), Alloc
 {
     form(code, 5, f)?;
     number(code, 6, step)?;
-    alu(code, AluOp::Sub, 5, 0, 5)?;
-    alu(code, AluOp::Rem, 7, 5, 6)?;
+    push_operation(code, AluOp::Sub, 5, 0, 5)?;
+    push_operation(code, AluOp::Rem, 7, 5, 6)?;
     need(code, BranchOp::Beq, 7, 0)?;
-    alu(code, AluOp::Div, 5, 5, 6)?;
+    push_operation(code, AluOp::Div, 5, 5, 6)?;
     need(code, BranchOp::Bge, 5, 0)?;
     Ok(())
 }
@@ -75,9 +76,9 @@ fn push_gap(code: &mut Vec<u32>, up: bool) -> Result<(), AllocError>
     ensures { IfOk result (λ u. Appended code.old.items code.new.items (gap_code up ∷ [])) }
 {
     if up {
-        alu(code, AluOp::Sub, 7, 6, 5)
+        push_operation(code, AluOp::Sub, 7, 6, 5)
     } else {
-        alu(code, AluOp::Sub, 7, 5, 6)
+        push_operation(code, AluOp::Sub, 7, 5, 6)
     }
 }
 
@@ -86,9 +87,9 @@ fn push_end(code: &mut Vec<u32>, up: bool) -> Result<(), AllocError>
     ensures { IfOk result (λ u. Appended code.old.items code.new.items (end_code up ∷ [])) }
 {
     if up {
-        alu(code, AluOp::Add, 28, 5, 28)
+        push_operation(code, AluOp::Add, 28, 5, 28)
     } else {
-        alu(code, AluOp::Sub, 28, 5, 28)
+        push_operation(code, AluOp::Sub, 28, 5, 28)
     }
 }
 
@@ -97,9 +98,9 @@ fn push_less_one(code: &mut Vec<u32>, strict: bool) -> Result<(), AllocError>
     ensures { IfOk result (λ u. Appended code.old.items code.new.items (less_code strict ∷ [])) }
 {
     if strict {
-        imm(code, ImmOp::Addi, 7, 7, -1)
+        push_immediate(code, ImmOp::Addi, 7, 7, -1)
     } else {
-        imm(code, ImmOp::Addi, 7, 7, 0)
+        push_immediate(code, ImmOp::Addi, 7, 7, 0)
     }
 }
 
@@ -110,9 +111,9 @@ fn push_count(code: &mut Vec<u32>, strict: bool, up: bool, size: u64) -> Result<
     push_gap(code, up)?;
     push_less_one(code, strict)?;
     number(code, 28, size.cast_signed())?;
-    alu(code, AluOp::Divu, 7, 7, 28)?;
-    imm(code, ImmOp::Addi, 7, 7, 1)?;
-    alu(code, AluOp::Mul, 28, 7, 28)?;
+    push_operation(code, AluOp::Divu, 7, 7, 28)?;
+    push_immediate(code, ImmOp::Addi, 7, 7, 1)?;
+    push_operation(code, AluOp::Mul, 28, 7, 28)?;
     push_end(code, up)?;
     Ok(())
 }
@@ -131,14 +132,14 @@ fn push_order(
 {
     form(code, 5, f)?;
     form(code, 6, g)?;
-    imm(code, ImmOp::Addi, 7, 0, 0)?;
+    push_immediate(code, ImmOp::Addi, 7, 0, 0)?;
     let op = branch_of(signed, strict);
     let (first, second) = operands(strict, up, 5, 6);
-    branch(code, op, first, second, 44)?;
+    push_over(code, op, first, second, 10)?;
     push_count(code, strict, up, size)?;
     let (first, second) = operands(strict, up, 28, 6);
     need(code, op, first, second)?;
-    imm(code, ImmOp::Addi, 5, 7, 0)?;
+    push_immediate(code, ImmOp::Addi, 5, 7, 0)?;
     Ok(())
 }
 
@@ -170,12 +171,12 @@ pub fn push_trip(code: &mut Vec<u32>, trip: &Trip) -> Result<(), AllocError>
 fn push_last_turn(code: &mut Vec<u32>) -> Result<(), AllocError>
     ensures { IfOk result (λ u. Appended code.old.items code.new.items last_turn_code) }
 {
-    imm(code, ImmOp::Addi, 6, 0, 16)?;
+    push_immediate(code, ImmOp::Addi, 6, 0, 16)?;
     need(code, BranchOp::Bge, 5, 6)?;
-    imm(code, ImmOp::Addi, 6, 0, 1)?;
-    imm(code, ImmOp::Slli, 6, 6, 31)?;
+    push_immediate(code, ImmOp::Addi, 6, 0, 1)?;
+    push_immediate(code, ImmOp::Slli, 6, 6, 31)?;
     need(code, BranchOp::Bge, 6, 5)?;
-    imm(code, ImmOp::Addi, 5, 5, -1)?;
+    push_immediate(code, ImmOp::Addi, 5, 5, -1)?;
     put(code, 23, 5)?;
     Ok(())
 }
@@ -185,7 +186,7 @@ fn push_last_pass(code: &mut Vec<u32>, slot: u8) -> Result<(), AllocError>
     requires { slot < 32 }
     ensures { IfOk result (λ u. Appended code.old.items code.new.items (last_pass_code slot)) }
 {
-    imm(code, ImmOp::Srli, 6, 5, 31)?;
+    push_immediate(code, ImmOp::Srli, 6, 5, 31)?;
     need(code, BranchOp::Beq, 6, 0)?;
     put(code, slot, 5)?;
     Ok(())

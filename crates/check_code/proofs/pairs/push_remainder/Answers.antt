@@ -2,4 +2,6 @@ use Rattle.check_code.proofs.Joins.{four}
 use Rattle.check_code.proofs.pairs.push_remainder.Goals as goal
 
 pub returns : goal.returns
-returns c = four _ _ _ _ _ _ _ _ _ c.in_ok-push_value.ensures c.in_ok-push_operation.ensures c.in_ok-push_over.ensures c.in_ok-push_operation-2.ensures
+returns c =
+    four _ _ _ _ _ _ _ _ _ c.in_ok-push_value.ensures c.in_ok-push_operation.ensures c.in_ok-push_over.ensures
+    c.in_ok-push_operation-2.ensures

@@ -9,5 +9,5 @@ pub returns : goal.returns
 returns c =
     let f : FitsSigned w64 c.args.step = search rules in
     let y = simp to_z-of_z at c.in_ok-number.ensures in
-    joined _ _ _ _ _ c.in_ok-form.ensures (joined _ _ _ _ _ y (joined _ _ _ _ _ c.in_ok-alu.ensures (joined _ _ _ _ _ c.in_ok-alu-2.ensures
-    (joined _ _ _ _ _ c.in_ok-need.ensures (joined _ _ _ _ _ c.in_ok-alu-3.ensures c.in_ok-need-2.ensures)))))
+    joined _ _ _ _ _ c.in_ok-form.ensures (joined _ _ _ _ _ y (joined _ _ _ _ _ c.in_ok-push_operation.ensures (joined _ _ _ _ _ c.in_ok-push_operation-2.ensures
+    (joined _ _ _ _ _ c.in_ok-need.ensures (joined _ _ _ _ _ c.in_ok-push_operation-3.ensures c.in_ok-need-2.ensures)))))
