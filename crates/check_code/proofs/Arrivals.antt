@@ -27,7 +27,8 @@ one_less (Some n) = n - 1
 one_less None = 0
 
 abbrev pub last_values : List Trip → (ℕ → ℤ) → List ℕ
-last_values trips z = one_less (root_by (slice_get trips 0) z) ∷ one_less (passes_by (slice_get trips 1) z) ∷ one_less (passes_by (slice_get trips 2) z) ∷ one_less (passes_by (slice_get trips 3) z) ∷ []
+last_values trips z = one_less (root_by (slice_get trips 0) z) ∷ one_less (passes_by (slice_get trips 1) z) ∷ one_less
+    (passes_by (slice_get trips 2) z) ∷ one_less (passes_by (slice_get trips 3) z) ∷ []
 
 -- from these entry values on
 abbrev pub values_by : (ℕ → ℕ) → List ℕ → ℕ → ℕ
@@ -73,7 +74,8 @@ passes_small : (o : Option Trip) (z : ℕ → ℤ) → one_less (passes_by o z) 
 passes_small None z = omega arith
 passes_small (Some t) z = passes_less (few_stays t z)
 
-past_four : (a b c d k n : ℕ) → a < 2 ^ 31 → b < 2 ^ 31 → c < 2 ^ 31 → d < 2 ^ 31 → n < 2 ^ 31 → slice_index_or (a ∷ b ∷ c ∷ d ∷ []) k n < 2 ^ 31
+past_four : (a b c d k n : ℕ) → a < 2 ^ 31 → b < 2 ^ 31 → c < 2 ^ 31 → d < 2 ^ 31 → n < 2 ^ 31 → slice_index_or (a ∷ b ∷ c ∷ d ∷ []) k n <
+    2 ^ 31
 past_four a b c d zero n h i j l r = h
 past_four a b c d (suc zero) n h i j l r = i
 past_four a b c d (suc (suc zero)) n h i j l r = j
@@ -82,7 +84,8 @@ past_four a b c d (suc (suc (suc (suc k)))) n h i j l r = r
 
 pub last_small : (trips : List Trip) (z : ℕ → ℤ) (k n : ℕ) → n < 2 ^ 31 → slice_index_or (last_values trips z) k n < 2 ^ 31
 last_small trips z k n r =
-    past_four _ _ _ _ k n (root_small (slice_get trips 0) z) (passes_small (slice_get trips 1) z) (passes_small (slice_get trips 2) z) (passes_small (slice_get trips 3) z) r
+    past_four _ _ _ _ k n (root_small (slice_get trips 0) z) (passes_small (slice_get trips 1) z) (passes_small (slice_get trips 2) z)
+    (passes_small (slice_get trips 3) z) r
 
 pub last_below : (trips : List Trip) (z : ℕ → ℤ) → All (λ n. n < 2 ^ 31) (last_values trips z)
 last_below trips z k d h = in_four k h
@@ -109,7 +112,8 @@ held_below : (regs : List ℕ) (o : Option Cell) (m : List Area) → AreBytes m 
 held_below regs None m k = omega arith
 held_below regs (Some c) m k = content_below c.wide m (address regs c) k
 
-entry_below : (cells : List Cell) (regs : List ℕ) (m : List Area) (loc : ℕ) → AreWords regs → AreBytes m → entry_value cells regs m loc < 2 ^ 64
+entry_below : (cells : List Cell) (regs : List ℕ) (m : List Area) (loc : ℕ) → AreWords regs → AreBytes m → entry_value cells regs m loc <
+    2 ^ 64
 entry_below cells regs m loc a b = by_test (nat_lt loc 32)
   where
     by_test : (t : Bool) → cond t (register regs loc) (held regs (cell_at cells (loc - 32)) m) < 2 ^ 64
@@ -119,19 +123,23 @@ entry_below cells regs m loc a b = by_test (nat_lt loc 32)
 pub values_below : (c : Check) (regs : List ℕ) (m : List Area) (loc : ℕ) → AreWords regs → AreBytes m → values_of c regs m loc < 2 ^ 64
 values_below c regs m loc a b = by_test (nat_lt loc 48)
   where
-    by_test : (t : Bool) → cond t (entry_value c.cells.list.items regs m loc) (slice_index (last_values c.trips (entry c.cells.list.items regs m)) (loc - 55)) < 2 ^ 64
+    by_test : (t : Bool) → cond t (entry_value c.cells.list.items regs m loc)
+        (slice_index (last_values c.trips (entry c.cells.list.items regs m)) (loc - 55)) < 2 ^ 64
     by_test true = entry_below c.cells.list.items regs m loc a b
     by_test false = let s = last_small c.trips (entry c.cells.list.items regs m) (loc - 55) 0 (omega arith) in omega (arith, s)
 
-pub last_is : (c : Check) (regs : List ℕ) (m : List Area) → last_from (values_of c regs m) ≡ last_values c.trips (entry c.cells.list.items regs m)
+pub last_is : (c : Check) (regs : List ℕ) (m : List Area) → last_from (values_of c regs m) ≡ last_values c.trips
+    (entry c.cells.list.items regs m)
 last_is c regs m = refl
 
 -- below 48 they are the entry values
-pub values_are : (c : Check) (regs : List ℕ) (m : List Area) (loc : ℕ) → loc < 48 → as_integers (values_of c regs m) loc ≡ entry c.cells.list.items regs m loc
+pub values_are : (c : Check) (regs : List ℕ) (m : List Area) (loc : ℕ) → loc < 48 → as_integers (values_of c regs m) loc ≡ entry
+    c.cells.list.items regs m loc
 unfolding entry
 values_are c regs m loc h =
     let t : nat_lt loc 48 ≡ true = grind (arith, nat_tests) in
-    ap (λ b. pos (cond b (entry_value c.cells.list.items regs m loc) (slice_index (last_values c.trips (λ r. pos (entry_value c.cells.list.items regs m r))) (loc - 55)))) t
+    ap (λ b. pos (cond b (entry_value c.cells.list.items regs m loc)
+    (slice_index (last_values c.trips (λ r. pos (entry_value c.cells.list.items regs m r))) (loc - 55)))) t
 
 -- a form's value at turn numbers 0 is told by these
 abbrev pub AreLocated : List EntryTerm → Type 0
@@ -142,7 +150,8 @@ same_weight : (y z : ℕ → ℤ) (ts : List EntryTerm) → ((loc : ℕ) → loc
 same_weight y z [] h k = refl
 same_weight y z (t ∷ ts) h k = ap (λ v. t.by *ℤ v +ℤ weight y ts) (h t.loc k.0) ∙ ap (λ v. t.by *ℤ z t.loc +ℤ v) (same_weight y z ts h k.1)
 
-pub same_start : (y z : ℕ → ℤ) (f : LinearForm) → ((loc : ℕ) → loc < 48 → y loc ≡ z loc) → AreLocated f.terms → start_value f y ≡ start_value f z
+pub same_start : (y z : ℕ → ℤ) (f : LinearForm) → ((loc : ℕ) → loc < 48 → y loc ≡ z loc) → AreLocated f.terms → start_value f y ≡
+    start_value f z
 unfolding start_value
 same_start y z f h k =
     ap (λ v. word_of (f.constant +ℤ v +ℤ (f.first *ℤ pos 0 +ℤ (f.second *ℤ pos 0 +ℤ f.third *ℤ pos 0)))) (same_weight y z f.terms h k)
@@ -170,14 +179,17 @@ told_is [] z h = told_with (root_by None z) (passes_by None z) (passes_by None z
 told_is (t ∷ []) z h = told_with (root_by (Some t) z) (Some 1) (Some 1) (Some 1)
 told_is (t ∷ u ∷ []) z h = told_with (root_by (Some t) z) (passes_by (Some u) z) (Some 1) (Some 1)
 told_is (t ∷ u ∷ v ∷ []) z h = told_with (root_by (Some t) z) (passes_by (Some u) z) (passes_by (Some v) z) (Some 1)
-told_is (t ∷ u ∷ v ∷ x ∷ []) z h = told_with (root_by (Some t) z) (passes_by (Some u) z) (passes_by (Some v) z) (passes_by (Some x) z) ∙ ap (λ b. is_some (root_by (Some t) z) && (is_some (passes_by (Some u) z) && (is_some (passes_by (Some v) z) && b))) (and_true (is_some (passes_by (Some x) z)))
+told_is (t ∷ u ∷ v ∷ x ∷ []) z h = told_with (root_by (Some t) z) (passes_by (Some u) z) (passes_by (Some v) z) (passes_by (Some x) z) ∙
+    ap (λ b. is_some (root_by (Some t) z) && (is_some (passes_by (Some u) z) && (is_some (passes_by (Some v) z) && b)))
+    (and_true (is_some (passes_by (Some x) z)))
   where
     and_true : (b : Bool) → b ≡ (b && true)
     and_true true = refl
     and_true false = refl
 told_is (t ∷ u ∷ v ∷ x ∷ y ∷ ts) z h = absurd (omega arith)
 
-last_with : (p i j k : Option ℕ) (t : Turns) → turns_with p i j k ≡ Some t → last_of t ≡ one_less p ∷ one_less i ∷ one_less j ∷ one_less k ∷ []
+last_with : (p i j k : Option ℕ) (t : Turns) → turns_with p i j k ≡ Some t → last_of t ≡ one_less p ∷ one_less i ∷ one_less j ∷ one_less k
+    ∷ []
 last_with None i j k t e = absurd (cc)
 last_with (Some p) None j k t e = absurd (cc)
 last_with (Some p) (Some i) None k t e = absurd (cc)
@@ -189,4 +201,5 @@ last_with (Some p) (Some i) (Some j) (Some k) t e = ap last_of (sym (some_turns 
 
 pub last_told : (trips : List Trip) (z : ℕ → ℤ) (t : Turns) → turns_of trips z ≡ Some t → last_of t ≡ last_values trips z
 unfolding turns_of
-last_told trips z t e = last_with (root_by (slice_get trips 0) z) (passes_by (slice_get trips 1) z) (passes_by (slice_get trips 2) z) (passes_by (slice_get trips 3) z) t e
+last_told trips z t e = last_with (root_by (slice_get trips 0) z) (passes_by (slice_get trips 1) z) (passes_by (slice_get trips 2) z)
+    (passes_by (slice_get trips 3) z) t e

@@ -45,7 +45,8 @@ pub record CellOk (w : World) (known : ℕ → Bool) (e : ℕ → ℕ) (regs : L
   pub few : length areas < 2 ^ 16
   pub low : AreLow areas
   pub is_slot : Slot (32 + slot) slot
-  pub answered : cell_fits (in_bounds areas) regs c ≡ true → load_of w.memory (cell_address regs c) (width_of c) ≡ Ok (number_at (cell_size c) w.memory (cell_address regs c))
+  pub answered : cell_fits (in_bounds areas) regs c ≡ true → load_of w.memory (cell_address regs c) (width_of c) ≡ Ok
+      (number_at (cell_size c) w.memory (cell_address regs c))
   pub value : e (32 + slot) ≡ content c.wide w.memory (cell_address regs c)
 
 abbrev pub cell_ask : List ℕ → Cell → List Ask
@@ -77,10 +78,12 @@ end_is v wide h = let s = size_below wide in added_size v wide ∙ omega (arith,
 
 -- the words of a range as integers
 range_words : (areas : List Bounds) (c : Cell) (v : ℕ) → v < 2 ^ 31
-    → in_bounds areas (cell_permission c) (signed64 v, signed64 (alu_imm Addi v (pos (cell_size c)))) ≡ in_bounds areas (cell_permission c) (pos v, pos (v + cell_size c))
+    → in_bounds areas (cell_permission c) (signed64 v, signed64 (alu_imm Addi v (pos (cell_size c)))) ≡ in_bounds areas
+    (cell_permission c) (pos v, pos (v + cell_size c))
 range_words areas c v h =
     let s = size_below c.wide in
-    let e : signed64 (alu_imm Addi v (pos (cell_size c))) ≡ pos (v + cell_size c) = ap signed64 (end_is v c.wide h) ∙ small_signed (v + cell_size c) (omega (arith, s)) in
+    let e : signed64 (alu_imm Addi v (pos (cell_size c))) ≡ pos (v + cell_size c) = ap signed64 (end_is v c.wide h) ∙ small_signed
+    (v + cell_size c) (omega (arith, s)) in
     ap (λ z. in_bounds areas (cell_permission c) (z, signed64 (alu_imm Addi v (pos (cell_size c))))) (small_signed v (omega arith))
     ∙ ap (λ z. in_bounds areas (cell_permission c) (pos v, z)) e
 
@@ -95,15 +98,21 @@ x7 : Temporary 7
 x7 = record { slot = 18; is = refl }
 
 module _ (w : World) (known : ℕ → Bool) (e : ℕ → ℕ) where
-  aligned : (v : ℕ) (c : Cell) → IsTest w (Known known e) (With 5 v (Known known e)) (With 5 v (Known known e)) (aligned_code (width_of c)) (v % cell_size c == 0)
+  aligned : (v : ℕ) (c : Cell) → IsTest w (Known known e) (With 5 v (Known known e)) (With 5 v (Known known e))
+      (aligned_code (width_of c)) (v % cell_size c == 0)
   aligned v c =
       let z = Known known e in
       let s = With 5 v z in
       let one = Base (AluImm Andi 6 5 (pos (cell_size c - 1))) ∷ [] in
       let m = With 6 (alu_imm Andi v (pos (cell_size c - 1))) s in
       both w z s m s one (need_code Beq 6 0) true (v % cell_size c == 0)
-      (temps_test w z s m one refl (λ f g x. (ap (λ y. alu_imm Andi y (pos (cell_size c - 1))) x.0, (x.0, knows_temps known e one f g refl x.1))))
-      (λ h. weaker_after w z m m s (need_code Beq 6 0) (v % cell_size c == 0) (needed w z m Beq 6 0 (v % cell_size c == 0) (λ f g x. ap (λ y. y == 0) x.0 ∙ mask_test v c.wide) (λ f g x. x.1.1)) (λ f g x. x.1))
+      (temps_test w z s m one refl (λ f g x. (
+        ap (λ y. alu_imm Andi y (pos (cell_size c - 1))) x.0,
+        (x.0, knows_temps known e one f g refl x.1),
+      )))
+      (λ h. weaker_after w z m m s (need_code Beq 6 0) (v % cell_size c == 0)
+      (needed w z m Beq 6 0 (v % cell_size c == 0) (λ f g x. ap (λ y. y == 0) x.0 ∙ mask_test v c.wide) (λ f g x. x.1.1))
+      (λ f g x. x.1))
 
   below : (v : ℕ) → IsTest w (Known known e) (With 5 v (Known known e)) (With 5 v (Known known e)) below_code (nat_lt v (2 ^ 31))
   below v =
@@ -113,9 +122,12 @@ module _ (w : World) (known : ℕ → Bool) (e : ℕ → ℕ) where
       let m = With 6 (alu_imm Srli v (pos 31)) s in
       both w z s m s one (need_code Beq 6 0) true (nat_lt v (2 ^ 31))
       (temps_test w z s m one refl (λ f g x. (ap (λ y. alu_imm Srli y (pos 31)) x.0, (x.0, knows_temps known e one f g refl x.1))))
-      (λ h. weaker_after w z m m s (need_code Beq 6 0) (nat_lt v (2 ^ 31)) (needed w z m Beq 6 0 (nat_lt v (2 ^ 31)) (λ f g x. ap (λ y. y == 0) x.0 ∙ shift_test v) (λ f g x. x.1.1)) (λ f g x. x.1))
+      (λ h. weaker_after w z m m s (need_code Beq 6 0) (nat_lt v (2 ^ 31))
+      (needed w z m Beq 6 0 (nat_lt v (2 ^ 31)) (λ f g x. ap (λ y. y == 0) x.0 ∙ shift_test v) (λ f g x. x.1.1)) (λ f g x. x.1))
 
-  in_areas : (v : ℕ) (c : Cell) (areas : List Bounds) → length areas < 2 ^ 16 → AreLow areas → v < 2 ^ 31 → IsTest w (Known known e) (With 5 v (Known known e)) (With 5 v (Known known e)) (cell_areas_code areas c) (in_bounds areas (cell_permission c) (pos v, pos (v + cell_size c)))
+  in_areas : (v : ℕ) (c : Cell) (areas : List Bounds) → length areas < 2 ^ 16 → AreLow areas → v < 2 ^ 31 → IsTest w (Known known e)
+      (With 5 v (Known known e)) (With 5 v (Known known e)) (cell_areas_code areas c)
+      (in_bounds areas (cell_permission c) (pos v, pos (v + cell_size c)))
   in_areas v c areas few low small = record {
     by = λ p f g k has on off.
         let some = permitted (cell_permission c) areas in
@@ -123,7 +135,8 @@ module _ (w : World) (known : ℕ → Bool) (e : ℕ → ℕ) where
         let f1 = put f 6 (alu_imm Addi (read f 5) (pos (cell_size c))) in
         let k1 = knows_put known e f g 6 (alu_imm Addi (read f 5) (pos (cell_size c))) x6 k.1 in
         let same = bounds_is (cell_permission c) areas (read f 5) (alu_imm Addi (read f 5) (pos (cell_size c)))
-        ∙ ap (λ y. in_bounds areas (cell_permission c) (signed64 y, signed64 (alu_imm Addi y (pos (cell_size c))))) k.0 ∙ range_words areas c v small in
+        ∙ ap (λ y. in_bounds areas (cell_permission c) (signed64 y, signed64 (alu_imm Addi y (pos (cell_size c))))) k.0 ∙ range_words
+        areas c v small in
         imm_law w p f g Addi 6 5 (pos (cell_size c)) has.0
         (areas_law w f1 g some (suc p) short (low_bounds (cell_permission c) areas low) has.1
         (λ h a. on (sym same ∙ h) (put f1 7 a) g (k.0, knows_put known e f1 g 7 a x7 k1))
@@ -132,7 +145,8 @@ module _ (w : World) (known : ℕ → Bool) (e : ℕ → ℕ) where
 
   -- the tests of a cell
   fits : (regs : List ℕ) (areas : List Bounds) (c : Cell) → SiteOk known e regs c → length areas < 2 ^ 16 → AreLow areas
-      → IsTest w (Known known e) (Known known e) (With 5 (cell_address regs c) (Known known e)) (address_code 5 c ++ (aligned_code (width_of c) ++ (below_code ++ cell_areas_code areas c))) (cell_fits (in_bounds areas) regs c)
+      → IsTest w (Known known e) (Known known e) (With 5 (cell_address regs c) (Known known e))
+      (address_code 5 c ++ (aligned_code (width_of c) ++ (below_code ++ cell_areas_code areas c))) (cell_fits (in_bounds areas) regs c)
   unfolding cell_fits
   fits regs areas c ok few low =
       let z = Known known e in
@@ -142,18 +156,21 @@ module _ (w : World) (known : ℕ → Bool) (e : ℕ → ℕ) where
       let t2 = nat_lt v (2 ^ 31) in
       let t3 = in_bounds areas (cell_permission c) (cell_range regs c) in
       both w z z s s (address_code 5 c) (aligned_code (width_of c) ++ (below_code ++ cell_areas_code areas c)) true (t1 && (t2 && t3))
-      (addressed w known e 5 t5 c.base c.offset z s ok.address (λ f g x. x) (λ f g x. (ok.is, knows_put known e f g 5 _ (record { slot = 16; is = refl }) x)))
+      (addressed w known e 5 t5 c.base c.offset z s ok.address (λ f g x. x)
+      (λ f g x. (ok.is, knows_put known e f g 5 _ (record { slot = 16; is = refl }) x)))
       (λ h. both w z s s s (aligned_code (width_of c)) (below_code ++ cell_areas_code areas c) t1 (t2 && t3) (aligned v c)
       (λ h. both w z s s s below_code (cell_areas_code areas c) t2 t3 (below v) (λ h. in_areas v c areas few low (below_of v (2 ^ 31) h))))
 
 whole_of : (x y z u : List XInstr) (v : List XInstr) → x ++ (y ++ (z ++ (u ++ v))) ≡ (x ++ (y ++ (z ++ u))) ++ v
-whole_of x y z u v = sym (append_assoc x (y ++ (z ++ u)) v ∙ ap (λ l. x ++ l) (append_assoc y (z ++ u) v ∙ ap (λ l. y ++ l) (append_assoc z u v)))
+whole_of x y z u v = sym (append_assoc x (y ++ (z ++ u)) v ∙ ap (λ l. x ++ l)
+    (append_assoc y (z ++ u) v ∙ ap (λ l. y ++ l) (append_assoc z u v)))
 
 same_width : (wide : Bool) → load_width (load_op wide) ≡ width_by wide
 same_width true = refl
 same_width false = refl
 
-value_of_load : (wide : Bool) (m : List Area) (x : ℕ) → extended (load_op wide) (number_at (bytes_of (width_by wide)) m x) ≡ content wide m x
+value_of_load : (wide : Bool) (m : List Area) (x : ℕ) → extended (load_op wide) (number_at (bytes_of (width_by wide)) m x) ≡ content wide
+    m x
 value_of_load true m x = refl
 value_of_load false m x = refl
 
@@ -161,14 +178,17 @@ aligned_below : (regs : List ℕ) (areas : List Bounds) (c : Cell) → cell_fits
 unfolding cell_fits
 aligned_below regs areas c h = by_test (cell_address regs c % cell_size c == 0) (nat_lt (cell_address regs c) (2 ^ 31)) refl h
   where
-    by_test : (t u : Bool) → nat_lt (cell_address regs c) (2 ^ 31) ≡ u → (t && (u && in_bounds areas (cell_permission c) (cell_range regs c))) ≡ true → cell_address regs c < 2 ^ 31
+    by_test : (t u : Bool) → nat_lt (cell_address regs c) (2 ^ 31) ≡ u →
+        (t && (u && in_bounds areas (cell_permission c) (cell_range regs c))) ≡ true → cell_address regs c < 2 ^ 31
     by_test true true e h = below_of (cell_address regs c) (2 ^ 31) e
     by_test true false e h = absurd (cc)
     by_test false u e h = absurd (cc)
 
 -- the load into the slot
-taken_in : (w : World) (known : ℕ → Bool) (e : ℕ → ℕ) (regs : List ℕ) (areas : List Bounds) (slot : ℕ) (c : Cell) → CellOk w known e regs areas slot c → cell_fits (in_bounds areas) regs c ≡ true
-    → IsLoading w (Known known e) (With 5 (cell_address regs c) (Known known e)) (Known (also known (32 + slot)) e) (cell_load_code slot c) true (cell_ask regs c)
+taken_in : (w : World) (known : ℕ → Bool) (e : ℕ → ℕ) (regs : List ℕ) (areas : List Bounds) (slot : ℕ) (c : Cell) → CellOk w known e regs
+    areas slot c → cell_fits (in_bounds areas) regs c ≡ true
+    → IsLoading w (Known known e) (With 5 (cell_address regs c) (Known known e)) (Known (also known (32 + slot)) e)
+    (cell_load_code slot c) true (cell_ask regs c)
 taken_in w known e regs areas slot c ok holds = record {
   by = λ l p f g x has on off.
       let v = cell_address regs c in
@@ -180,7 +200,8 @@ taken_in w known e regs areas slot c ok holds = record {
       let is : r ≡ e (32 + slot) = value_of_load c.wide m v ∙ sym ok.value in
       let k1 = knows_put known e f g 6 r x6 x.1 in
       let goal = λ (q : ℕ) (u : Width). Wins (at w (l ++ Loads q u ∷ [])) (suc p) (put f 6 r) g in
-      let answered : load_of m (plus_offset (read f 5) (pos 0)) (load_width (load_op c.wide)) ≡ load_of m v (width_of c) = ap (λ y. load_of m y (load_width (load_op c.wide))) place ∙ ap (load_of m v) (same_width c.wide) in
+      let answered : load_of m (plus_offset (read f 5) (pos 0)) (load_width (load_op c.wide)) ≡ load_of m v (width_of c) = ap
+      (λ y. load_of m y (load_width (load_op c.wide))) place ∙ ap (load_of m v) (same_width c.wide) in
       load_law (at w l) p n f g (load_op c.wide) 6 5 (pos 0) has.0 (answered ∙ ok.answered holds)
       (subst (λ q. goal q (load_width (load_op c.wide))) (sym place) (subst (goal v) (sym (same_width c.wide))
       (put_law (at w (l ++ cell_ask regs c)) (suc p) (put f 6 r) g slot 6 has.1.0
@@ -195,20 +216,24 @@ and_true true = refl
 and_true false = refl
 
 -- the test of a cell: one load, whose value goes into the slot
-pub cell_law : (w : World) (known : ℕ → Bool) (e : ℕ → ℕ) (regs : List ℕ) (areas : List Bounds) (slot : ℕ) (c : Cell) → CellOk w known e regs areas slot c
-    → IsLoading w (Known known e) (Known known e) (Known (also known (32 + slot)) e) (cell_code areas slot c) (cell_fits (in_bounds areas) regs c) (cell_ask regs c)
+pub cell_law : (w : World) (known : ℕ → Bool) (e : ℕ → ℕ) (regs : List ℕ) (areas : List Bounds) (slot : ℕ) (c : Cell) → CellOk w known e
+    regs areas slot c
+    → IsLoading w (Known known e) (Known known e) (Known (also known (32 + slot)) e) (cell_code areas slot c)
+    (cell_fits (in_bounds areas) regs c) (cell_ask regs c)
 cell_law w known e regs areas slot c ok =
     let z = Known known e in
     let after = Known (also known (32 + slot)) e in
     let front = address_code 5 c ++ (aligned_code (width_of c) ++ (below_code ++ cell_areas_code areas c)) in
     let t = cell_fits (in_bounds areas) regs c in
-    subst (λ is. IsLoading w z z after is t (cell_ask regs c)) (sym (whole_of (address_code 5 c) (aligned_code (width_of c)) below_code (cell_areas_code areas c) (cell_load_code slot c)))
+    subst (λ is. IsLoading w z z after is t (cell_ask regs c))
+    (sym (whole_of (address_code 5 c) (aligned_code (width_of c)) below_code (cell_areas_code areas c) (cell_load_code slot c)))
     (subst (λ b. IsLoading w z z after (front ++ cell_load_code slot c) b (cell_ask regs c)) (and_true t)
     (both_loading w z z (With 5 (cell_address regs c) z) after front (cell_load_code slot c) t true [] (cell_ask regs c)
     (lifted w z z (With 5 (cell_address regs c) z) front t (λ l. fits (at w l) known e regs areas c ok.site ok.few ok.low))
     (λ h. taken_in w known e regs areas slot c ok h)))
 
-ge_words : (a b : ℕ) (wide : Bool) → a < 2 ^ 31 → b < 2 ^ 31 → taken Bge b (alu_imm Addi a (pos (bytes_of (width_by wide)))) ≡ not (int_lt (pos b) (pos (a + bytes_of (width_by wide))))
+ge_words : (a b : ℕ) (wide : Bool) → a < 2 ^ 31 → b < 2 ^ 31 → taken Bge b (alu_imm Addi a (pos (bytes_of (width_by wide)))) ≡ not
+    (int_lt (pos b) (pos (a + bytes_of (width_by wide))))
 ge_words a b wide k h =
     let s = size_below wide in
     ap (λ y. not (int_lt (signed64 b) (signed64 y))) (end_is a wide k)
@@ -222,7 +247,8 @@ or_none false false = refl
 
 module _ (w : World) (known : ℕ → Bool) (e : ℕ → ℕ) where
   -- the bytes of two cells are apart
-  both_law : (regs : List ℕ) (c d : Cell) → SiteOk known e regs c → SiteOk known e regs d → cell_address regs c < 2 ^ 31 → cell_address regs d < 2 ^ 31
+  both_law : (regs : List ℕ) (c d : Cell) → SiteOk known e regs c → SiteOk known e regs d → cell_address regs c < 2 ^ 31 → cell_address
+      regs d < 2 ^ 31
       → IsTest w (Known known e) (Known known e) (Known known e) (both_code c d) (are_disjoint (cell_range regs c) (cell_range regs d))
   both_law regs c d okc okd lowc lowd =
       let z = Known known e in
@@ -239,29 +265,42 @@ module _ (w : World) (known : ℕ → Bool) (e : ℕ → ℕ) where
       let one = Base (AluImm Addi 7 5 (pos (cell_size c))) ∷ [] in
       let two = Base (AluImm Addi 7 6 (pos (cell_size d))) ∷ [] in
       same_test w z z z (both_code c d) (t1 || (t2 || false)) (are_disjoint (cell_range regs c) (cell_range regs d))
-      (or_none t1 t2 ∙ ap (λ t. t || t2) (ge_words a b c.wide lowc lowd) ∙ ap (λ t. not (int_lt (pos b) (pos (a + cell_size c))) || t) (ge_words b a d.wide lowd lowc))
+      (or_none t1 t2 ∙ ap (λ t. t || t2) (ge_words a b c.wide lowc lowd) ∙ ap (λ t. not (int_lt (pos b) (pos (a + cell_size c))) || t)
+      (ge_words b a d.wide lowd lowc))
       (both w z z s1 z (address_code 5 c) (address_code 6 d ++ apart_code c d) true (t1 || (t2 || false))
-      (addressed w known e 5 t5 c.base c.offset z s1 okc.address (λ f g x. x) (λ f g x. (okc.is, knows_put known e f g 5 _ (record { slot = 16; is = refl }) x)))
+      (addressed w known e 5 t5 c.base c.offset z s1 okc.address (λ f g x. x)
+      (λ f g x. (okc.is, knows_put known e f g 5 _ (record { slot = 16; is = refl }) x)))
       (λ h. both w z s1 s2 z (address_code 6 d) (apart_code c d) true (t1 || (t2 || false))
-      (addressed w known e 6 t6 d.base d.offset s1 s2 okd.address (λ f g x. x.1) (λ f g x. (okd.is, (x.0, knows_put known e f g 6 _ x6 x.1))))
+      (addressed w known e 6 t6 d.base d.offset s1 s2 okd.address (λ f g x. x.1)
+      (λ f g x. (okd.is, (x.0, knows_put known e f g 6 _ x6 x.1))))
       (λ h. both w z s2 s3 z one (Base (Branch Bge 6 7 (pos (4 * 4))) ∷ (two ++ last)) true (t1 || (t2 || false))
-      (temps_test w z s2 s3 one refl (λ f g x. (ap (λ y. alu_imm Addi y (pos (cell_size c))) x.1.0, (x.0, (x.1.0, knows_temps known e one f g refl x.1.1)))))
-      (λ h. or_else w z s3 z Bge 6 7 (two ++ last) t1 (t2 || false) (λ f g x. ap2 (read f 6) b (read f 7) ea (taken Bge) x.1.0 x.0) (λ f g x. x.1.1.1) (omega arith)
+      (temps_test w z s2 s3 one refl (λ f g x. (
+        ap (λ y. alu_imm Addi y (pos (cell_size c))) x.1.0,
+        (x.0, (x.1.0, knows_temps known e one f g refl x.1.1)),
+      )))
+      (λ h. or_else w z s3 z Bge 6 7 (two ++ last) t1 (t2 || false) (λ f g x. ap2 (read f 6) b (read f 7) ea (taken Bge) x.1.0 x.0)
+      (λ f g x. x.1.1.1) (omega arith)
       (λ h. both w z s3 s4 z two last true (t2 || false)
-      (temps_test w z s3 s4 two refl (λ f g x. (ap (λ y. alu_imm Addi y (pos (cell_size d))) x.1.0, (x.1.0, (x.1.1.0, knows_temps known e two f g refl x.1.1.1)))))
-      (λ h. or_else w z s4 z Bge 5 7 (open_jump ∷ []) t2 false (λ f g x. ap2 (read f 5) a (read f 7) eb (taken Bge) x.1.1.0 x.0) (λ f g x. x.1.1.1) (omega arith)
+      (temps_test w z s3 s4 two refl (λ f g x. (
+        ap (λ y. alu_imm Addi y (pos (cell_size d))) x.1.0,
+        (x.1.0, (x.1.1.0, knows_temps known e two f g refl x.1.1.1)),
+      )))
+      (λ h. or_else w z s4 z Bge 5 7 (open_jump ∷ []) t2 false (λ f g x. ap2 (read f 5) a (read f 7) eb (taken Bge) x.1.1.0 x.0)
+      (λ f g x. x.1.1.1) (omega arith)
       (λ k. never w z s4 z (λ f g x. x.1.1.1))))))))
     where
       last : List XInstr
       last = Base (Branch Bge 5 7 (pos (4 * 2))) ∷ open_jump ∷ []
 
   -- two cells of different bases, of which one is stored
-  pub clear_law : (regs : List ℕ) (c d : Cell) → SiteOk known e regs c → SiteOk known e regs d → cell_address regs c < 2 ^ 31 → cell_address regs d < 2 ^ 31
+  pub clear_law : (regs : List ℕ) (c d : Cell) → SiteOk known e regs c → SiteOk known e regs d → cell_address regs c < 2 ^ 31 →
+      cell_address regs d < 2 ^ 31
       → IsTest w (Known known e) (Known known e) (Known known e) (clear_code c d) (are_clear regs c d)
   unfolding are_clear
   clear_law regs c d okc okd lowc lowd = by_tests (same_base c.base d.base) (c.stored || d.stored)
     where
-      by_tests : (t u : Bool) → IsTest w (Known known e) (Known known e) (Known known e) (cond t [] (cond u (both_code c d) [])) (t || (not u || are_disjoint (cell_range regs c) (cell_range regs d)))
+      by_tests : (t u : Bool) → IsTest w (Known known e) (Known known e) (Known known e) (cond t [] (cond u (both_code c d) []))
+          (t || (not u || are_disjoint (cell_range regs c) (cell_range regs d)))
       by_tests true u = no_test w (Known known e) (Known known e)
       by_tests false true = both_law regs c d okc okd lowc lowd
       by_tests false false = no_test w (Known known e) (Known known e)

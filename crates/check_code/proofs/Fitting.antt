@@ -1,7 +1,7 @@
 -- What the tests of a check ask of its trips, duties and accesses.
-use Rattle.std.proofs.Common.{ℕ, length}
+use Rattle.std.proofs.Common.{◌≡◌, ℕ, zero, suc, refl, ap, ◌∙◌, true, length}
 use Rattle.std.specs.List.{All}
-use Rattle.linear_forms.specs.Forms.{LinearForm, IsForm}
+use Rattle.linear_forms.specs.Forms.{LinearForm, IsForm, is_small, stride}
 use Rattle.loop_data.specs.declared.accesses.Access.{Access}
 use Rattle.loop_data.specs.declared.equations.Duty.{Duty}
 use Rattle.loop_data.specs.declared.trips.Trip.{Trip}
@@ -26,9 +26,22 @@ pub record AccessFits (n levels : ℕ) (a : Access) : Type 0 where
   pub form : FormFits n a.form
   pub around : AreAmong levels a.around
 
+small_stride : (f : LinearForm) (depth : ℕ) → IsForm f → is_small (stride f depth) ≡ true
+small_stride f zero h = h.bounded.first
+small_stride f (suc zero) h = h.bounded.second
+small_stride f (suc (suc zero)) h = h.bounded.third
+small_stride f (suc (suc (suc k))) h = refl
+
 trip_fits : (n : ℕ) (t : Trip) → IsTripOver n t → IsForm t.start → IsForm t.bound → TripFits n t
 trip_fits n t h a b = record {
-  trip = record { start = a; bound = b; small = h.small; toward = h.toward; differs = h.differs };
+  trip = record {
+    start = a;
+    bound = b;
+    small = ap is_small h.gains ∙ small_stride t.start h.depth a;
+    toward = h.toward;
+    differs =
+        h.differs;
+  };
   start = record { form = a; located = h.start };
   bound = record { form = b; located = h.bound };
 }
@@ -37,7 +50,10 @@ pub trips_fit : (c : Check) → IsCheckable c → KeepsLimits c → All (TripFit
 trips_fit c ok forms k d h = trip_fits (length c.cells.list.items) _ (ok.trips k d h) (forms.starts k d h) (forms.bounds k d h)
 
 pub duties_fit : (c : Check) → IsCheckable c → KeepsLimits c → All (DutyFits (length c.cells.list.items) (length c.trips)) c.duties
-duties_fit c ok forms k d h = let o = ok.duties k d h in record { form = record { form = forms.duties k d h; located = o.form }; around = o.around }
+duties_fit c ok forms k d h = let o = ok.duties k d h in record
+    { form = record { form = forms.duties k d h; located = o.form }; around = o.around }
 
-pub accesses_fit : (c : Check) → IsCheckable c → KeepsLimits c → All (AccessFits (length c.cells.list.items) (length c.trips)) c.accesses.list.items
-accesses_fit c ok forms k d h = let o = ok.accesses k d h in record { form = record { form = forms.accesses k d h; located = o.form }; around = o.around }
+pub accesses_fit : (c : Check) → IsCheckable c → KeepsLimits c → All (AccessFits (length c.cells.list.items) (length c.trips))
+    c.accesses.list.items
+accesses_fit c ok forms k d h = let o = ok.accesses k d h in record
+    { form = record { form = forms.accesses k d h; located = o.form }; around = o.around }

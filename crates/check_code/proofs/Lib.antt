@@ -27,3 +27,5 @@ pub mod Whole
 pub mod Answered
 pub mod Emitted
 pub mod Rooms
+pub mod Located
+pub mod Found

@@ -14,7 +14,8 @@ use Rattle.stub_laws.proofs.Small.{fetched_small}
 use Rattle.stub_laws.proofs.Steps.{World, Wins, hart_at, go, next_address, place_small, reads_put}
 use Rattle.stub_laws.proofs.Logs.{at}
 
-pub load_law : (w : World) (p n : ℕ) (f g : ℕ → ℕ) (op : LoadOp) (rd rs1 : ℕ) (imm : ℤ) → fetched w.code (address p) ≡ Some (Base (Load op rd rs1 imm)) → load_of w.memory (plus_offset (read f rs1) imm) (load_width op) ≡ Ok n
+pub load_law : (w : World) (p n : ℕ) (f g : ℕ → ℕ) (op : LoadOp) (rd rs1 : ℕ) (imm : ℤ) → fetched w.code (address p) ≡ Some
+    (Base (Load op rd rs1 imm)) → load_of w.memory (plus_offset (read f rs1) imm) (load_width op) ≡ Ok n
     → Wins (at w (w.log ++ Loads (plus_offset (read f rs1) imm) (load_width op) ∷ [])) (suc p) (put f rd (extended op n)) g → Wins w p f g
 load_law w p n f g op rd rs1 imm e told next = record {
   by = λ regs slots a b.
@@ -24,8 +25,11 @@ load_law w p n f g op rd rs1 imm e told next = record {
       let l = w.log ++ Loads x (load_width op) ∷ [] in
       let same : plus_offset (register regs rs1) imm ≡ x = ap (λ y. plus_offset y imm) (a.each rs1 small.1) in
       go w (hart_at w p regs slots) (hart_at (at w l) (suc p) new slots) _ e
-      (ap (λ y. moved (hart_at w p regs slots) (Own (loaded op rd y (address p) regs (load_of w.memory y (load_width op))).next) (loaded op rd y (address p) regs (load_of w.memory y (load_width op))).regs slots (Loads y (load_width op))) same
-      ∙ ap (λ r. moved (hart_at w p regs slots) (Own (loaded op rd x (address p) regs r).next) (loaded op rd x (address p) regs r).regs slots (Loads x (load_width op))) told
-      ∙ ap (λ k. record { pc = k; regs = new; slots = slots; memory = w.memory; log = l; number = w.number; harts = w.harts }) (next_address p (place_small w p _ e)))
+      (ap (λ y. moved (hart_at w p regs slots) (Own (loaded op rd y (address p) regs (load_of w.memory y (load_width op))).next)
+      (loaded op rd y (address p) regs (load_of w.memory y (load_width op))).regs slots (Loads y (load_width op))) same
+      ∙ ap (λ r. moved (hart_at w p regs slots) (Own (loaded op rd x (address p) regs r).next) (loaded op rd x (address p) regs r).regs
+      slots (Loads x (load_width op))) told
+      ∙ ap (λ k. record { pc = k; regs = new; slots = slots; memory = w.memory; log = l; number = w.number; harts = w.harts })
+      (next_address p (place_small w p _ e)))
       (next.by new slots (reads_put regs f rd (extended op n) small.0 a) b);
 }

@@ -26,19 +26,23 @@ one_more : (b : Bounds) (bs : List Bounds) → IsLowArea b → All IsLowArea bs 
 one_more b bs h k zero d l = h
 one_more b bs h k (suc j) d l = k j d (omega (arith, l))
 
-low_segments : (from : ℕ) (ss : List Segment) (bs : List Bounds) → LieFrom from ss → All IsLowArea bs → All IsLowArea (map segment_bounds ss ++ bs)
+low_segments : (from : ℕ) (ss : List Segment) (bs : List Bounds) → LieFrom from ss → All IsLowArea bs → All IsLowArea
+    (map segment_bounds ss ++ bs)
 low_segments from [] bs h k = k
 low_segments from (s ∷ ss) bs h k =
     let e = h.3 in
-    one_more (segment_bounds s) (map segment_bounds ss ++ bs) (omega (arith, e), omega (arith, e)) (low_segments (rounded_end s) ss bs h.5 k)
+    one_more (segment_bounds s) (map segment_bounds ss ++ bs) (omega (arith, e), omega (arith, e))
+    (low_segments (rounded_end s) ss bs h.5 k)
 
-low_data : (top : ℕ) → top ≤ 0x5000_0000 → All IsLowArea (data_bounds ((top + 4095) / 4096 * 4096) heap_size ∷ data_bounds stack_low stack_size ∷ [])
+low_data : (top : ℕ) → top ≤ 0x5000_0000 → All IsLowArea
+    (data_bounds ((top + 4095) / 4096 * 4096) heap_size ∷ data_bounds stack_low stack_size ∷ [])
 low_data top h zero d l = (omega (arith, h), omega (arith, h))
 low_data top h (suc zero) d l = (omega arith, omega arith)
 low_data top h (suc (suc k)) d l = absurd (omega (arith, l))
 
 pub rooms : RoomLaw
 rooms elf h = (
-  let m = more_bounds elf.segments (data_bounds (heap_low elf.segments) heap_size ∷ data_bounds stack_low stack_size ∷ []) in let f = h.few in omega (arith, m, f),
+  let m = more_bounds elf.segments (data_bounds (heap_low elf.segments) heap_size ∷ data_bounds stack_low stack_size ∷ []) in let f =
+      h.few in omega (arith, m, f),
   low_segments 0 elf.segments _ h.apart (low_data (highest_end elf.segments) (highest 0 elf.segments h.apart)),
 )

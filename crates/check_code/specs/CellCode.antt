@@ -32,7 +32,8 @@ cell_load_code slot c = Base (Load (load_op c.wide) 6 5 (pos 0)) ∷ Put slot 6 
 
 abbrev pub cell_code : List Bounds → ℕ → Cell → List XInstr
 cell_code areas slot c =
-    address_code 5 c ++ (aligned_code (width_of c) ++ (below_code ++ (cell_areas_code areas c ++ cell_load_code slot c)))
+    address_code 5 c ++ (aligned_code (width_of c)
+    ++ (below_code ++ (cell_areas_code areas c ++ cell_load_code slot c)))
 
 -- the bytes of two cells at the addresses in x5 and x6 are apart
 abbrev pub apart_code : Cell → Cell → List XInstr

@@ -1,6 +1,6 @@
--- What the words of a check do wherever they stand in added code. Of a hart that arrives at the loop they go on to their
--- end exactly where the check tells turns, and to the target of their open jumps exactly where it tells none. They write no
--- memory and meet no fault; at their end the slots have the last turn and passes, and what the cells held.
+-- What the words of a check do wherever they stand in added code. Of a hart that arrives at the loop they go on to
+-- their end exactly where the check tells turns, and to the target of their open jumps exactly where it tells none. They
+-- write no memory and meet no fault; at their end the slots have the last turn and passes, and what the cells held.
 use Rattle.std.specs.Prelude.{ℕ, suc, ◌≡◌, ◌↔◌, ◌+◌, ◌-◌, ◌<◌, ◌≤◌, ◌^◌, List, [], ◌++◌, ◌∷◌, length, flat_map, slice_index, Option, Some, None}
 use Rattle.rv64_decode.specs.Area.{Area}
 use Rattle.rv64_decode.specs.Ask.{Ask, Loads}
@@ -53,7 +53,8 @@ ComesBy c regs m code h end to None = (n : ℕ) × Arrives regs m to (run code n
 
 -- where the words are all the code, the run comes to their end exactly where the check tells turns, and to a target
 -- behind them exactly where it tells none
-pub record TellsTests (c : Check) (regs : List ℕ) (m : List Area) (code : List ℕ) (h : Hart) (end out : ℕ) : Type 0 where
+pub record TellsTests (c : Check) (regs : List ℕ) (m : List Area) (code : List ℕ) (h : Hart) (end out : ℕ)
+    : Type 0 where
   pub passes : ((n : ℕ) × ((run code n h).pc ≡ place_address end)) ↔ ((t : Turns) × (answer c regs m ≡ Some t))
   pub fails : ((n : ℕ) × ((run code n h).pc ≡ place_address out)) ↔ (answer c regs m ≡ None)
 

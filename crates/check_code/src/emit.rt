@@ -13,7 +13,7 @@ ghost use Rattle.check_code.specs.DutyCode.{duty_code};
 ghost use Rattle.check_code.specs.AccessCode.{access_code};
 ghost use Rattle.check_code.specs.MeetCode.{keep_off_code};
 ghost use Rattle.check_code.specs.CheckCode.{cells_code, all_clear_code, inners_code, trips_code, all_keep_off_code, pair_at_code, check_code};
-ghost use Rattle.check_code.specs.Checkable.{IsLowArea, HasRoom, IsCheckable, RoomLaw};
+ghost use Rattle.check_code.specs.Checkable.{IsLowArea, HasRoom, IsCheckable, RoomLaw, FoundLaw};
 ghost use Rattle.check_code.specs.CheckLaws.{TellsCheck};
 
 use crate::accesses::{push_access, push_keep_off};
@@ -201,6 +201,12 @@ fn push_pairs(
 /// The areas of an executable have room in the words of a check.
 pub fn areas_have_room()
     ensures { RoomLaw }
+{}
+
+/// The check of what the analysis finds of a nest has a root and at most three inner loops, and its words tell what it
+/// tells: its forms are over the loop's own locations, and its steps lead to where relations end.
+pub fn found_checks_are_told()
+    ensures { FoundLaw }
 {}
 
 /// The words of a check. A hart that arrives at the loop and runs them comes to their end where the check tells turns,

@@ -22,7 +22,7 @@ mod turn_laws;
 mod turn_tests;
 pub mod turns;
 
-pub use emit::{areas_have_room, emit_check};
+pub use emit::{areas_have_room, emit_check, found_checks_are_told};
 pub use laws::{
     a_branch_is_needed, areas_are_tried, cells_are_addressed, forms_are_worked_out,
     greatest_values_are_worked_out, least_values_are_worked_out, locations_are_brought,
