@@ -29,3 +29,4 @@ pub mod Emitted
 pub mod Rooms
 pub mod Located
 pub mod Found
+pub mod Plain

@@ -1,7 +1,9 @@
 -- The check of a loop as added code: its tests one after the other, in the order of the check over integers. Each that
 -- fails leads to the open target.
-use Rattle.std.specs.Prelude.{ℕ, suc, List, [], ◌∷◌, ◌++◌, flat_map, Option, Some, slice_get}
+use Rattle.std.specs.Prelude.{ℕ, zero, suc, Bool, true, false, pos, List, [], ◌∷◌, ◌++◌, flat_map, Option, Some, slice_get}
+use Rattle.rv64_decode.specs.declared.instr.Instr.TheVariants.{Alu, AluImm, Upper, Load, Branch, Jal}
 use Rattle.rv64_decode.specs.declared.xinstr.XInstr.{XInstr}
+use Rattle.rv64_decode.specs.declared.xinstr.XInstr.TheVariants.{Base, Put, Get}
 use Rattle.loop_data.specs.declared.accesses.Access.{Access}
 use Rattle.loop_data.specs.declared.plans.Term.{Term}
 use Rattle.loop_data.specs.declared.trips.Trip.{Trip}
@@ -56,3 +58,15 @@ check_code c =
     ++ (flat_map (access_code c.areas) c.accesses.list.items
     ++ (all_keep_off_code c.cells.list.items c.accesses.list.items
     ++ flat_map (pair_at_code c.accesses.list.items) c.pairs)))))
+
+-- an instruction that neither stores nor calls, and that jumps to the open target if at all
+abbrev pub is_check_word : XInstr → Bool
+is_check_word (Base (Alu op rd rs1 rs2)) = true
+is_check_word (Base (AluImm op rd rs1 imm)) = true
+is_check_word (Base (Upper op rd imm)) = true
+is_check_word (Base (Load op rd rs1 imm)) = true
+is_check_word (Base (Branch op rs1 rs2 imm)) = true
+is_check_word (Base (Jal zero (pos zero))) = true
+is_check_word (Put slot rs1) = true
+is_check_word (Get rd slot) = true
+is_check_word i = false

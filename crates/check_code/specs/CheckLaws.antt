@@ -1,6 +1,7 @@
 -- What the words of a check do wherever they stand in added code. Of a hart that arrives at the loop they go on to
--- their end exactly where the check tells turns, and to the target of their open jumps exactly where it tells none. They
--- write no memory and meet no fault; at their end the slots have the last turn and passes, and what the cells held.
+-- their end exactly where the check tells turns, and to the target of their open jumps exactly where it tells none.
+-- They write no memory and meet no fault, since a hart that faults stays where it is; at their end the slots have the
+-- last turn and passes, and what the cells held.
 use Rattle.std.specs.Prelude.{ℕ, suc, ◌≡◌, ◌↔◌, ◌+◌, ◌-◌, ◌<◌, ◌≤◌, ◌^◌, List, [], ◌++◌, ◌∷◌, length, flat_map, slice_index, Option, Some, None}
 use Rattle.rv64_decode.specs.Area.{Area}
 use Rattle.rv64_decode.specs.Ask.{Ask, Loads}

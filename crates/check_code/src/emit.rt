@@ -1,5 +1,5 @@
-ghost use Rattle.std.specs.Prelude.{◌≡◌, ◌<◌, ◌≤◌, ◌^◌, ◌+◌, [], IfOk, flat_map, length};
-ghost use Rattle.std.specs.List.{All};
+ghost use Rattle.std.specs.Prelude.{◌≡◌, true, ◌<◌, ◌≤◌, ◌^◌, ◌+◌, [], IfOk, flat_map, length};
+ghost use Rattle.std.specs.List.{All, list_all};
 ghost use Rattle.linear_forms.specs.Forms.{IsForm};
 ghost use Rattle.loop_data.specs.declared.accesses.Access.{Access};
 ghost use Rattle.loop_data.specs.declared.equations.Duty.{Duty};
@@ -12,7 +12,7 @@ ghost use Rattle.check_code.specs.CellCode.{clear_code};
 ghost use Rattle.check_code.specs.DutyCode.{duty_code};
 ghost use Rattle.check_code.specs.AccessCode.{access_code};
 ghost use Rattle.check_code.specs.MeetCode.{keep_off_code};
-ghost use Rattle.check_code.specs.CheckCode.{cells_code, all_clear_code, inners_code, trips_code, all_keep_off_code, pair_at_code, check_code};
+ghost use Rattle.check_code.specs.CheckCode.{cells_code, all_clear_code, inners_code, trips_code, all_keep_off_code, pair_at_code, is_check_word, check_code};
 ghost use Rattle.check_code.specs.Checkable.{IsLowArea, HasRoom, IsCheckable, RoomLaw, FoundLaw};
 ghost use Rattle.check_code.specs.CheckLaws.{TellsCheck};
 
@@ -216,6 +216,7 @@ pub fn found_checks_are_told()
 pub fn emit_check(alloc: Global, check: &Check) -> Result<Vec<u32>, AllocError>
     requires { HasRoom check.now }
     ensures words { IfOk result (λ code. readings code.items ≡ somes (check_code check.now)) }
+    ensures plain { IfOk result (λ code. list_all is_check_word (check_code check.now) ≡ true) }
     ensures tells { IfOk result (λ code. IsCheckable check.now → TellsCheck check.now code.items) }
 {
     let areas = check.areas.as_slice();

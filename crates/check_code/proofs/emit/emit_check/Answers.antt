@@ -2,6 +2,7 @@ use Rattle.std.proofs.Common.{◌≡◌}
 use Rattle.stub_laws.specs.Code.{readings, somes}
 use Rattle.check_code.specs.CheckCode.{check_code}
 use Rattle.check_code.proofs.Emitted.{seven_parts, check_words, check_kept}
+use Rattle.check_code.proofs.Plain.{check_plain}
 use Rattle.check_code.proofs.Answered.{tells_check}
 use Rattle.check_code.proofs.emit.emit_check.Goals as goal
 
@@ -23,3 +24,6 @@ returns-clause-tells c =
     (check_kept c.args.check.now c.as_slice-cells.result.now c.as_slice.result.now c.as_slice-2.result.now c.as_slice-accesses.result.now
     c.as_slice-cells.ensures.value c.as_slice.ensures c.as_slice-2.ensures c.as_slice-accesses.ensures.value
     c.as_slice-cells.ensures.fits c.in_ok-push_trips.ensures.starts c.in_ok-push_trips.ensures.bounds c.in_ok-push_duties.ensures.forms c.in_ok-push_accesses.ensures.forms) own words
+
+pub returns-clause-plain : goal.returns-clause-plain
+returns-clause-plain c = check_plain c.args.check.now
