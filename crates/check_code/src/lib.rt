@@ -7,6 +7,8 @@ pub mod accesses;
 pub mod cells;
 pub mod duties;
 mod emit;
+#[cfg(test)]
+mod emit_tests;
 mod laws;
 pub mod macros;
 mod numbered;

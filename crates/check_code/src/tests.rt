@@ -48,14 +48,14 @@ impl Words for Nowhere {
     }
 }
 
-const BASE: u64 = 0x6000_0000;
+pub(crate) const BASE: u64 = 0x6000_0000;
 
 pub(crate) fn reg(number: u8) -> Reg {
     Reg::new(number % 32)
 }
 
 // The address after a word, or none where the hart does not go on.
-fn step(word: u32, pc: u64, regs: &mut Regs, slots: &mut [u64; 32]) -> Option<u64> {
+pub(crate) fn step(word: u32, pc: u64, regs: &mut Regs, slots: &mut [u64; 32]) -> Option<u64> {
     match decode_x(word) {
         Some(i) => match exec_x(i, pc, regs, slots, 0, 1, &mut Nowhere) {
             XNext::Own(Next::At(to)) => Some(to),
