@@ -1,0 +1,10 @@
+pub mod Memories
+pub mod Copies
+pub mod Bodies
+pub mod StubCode
+pub mod Passages
+pub mod Listing
+pub mod Regions
+pub mod Edges
+pub mod Sharing
+pub mod Stubs
