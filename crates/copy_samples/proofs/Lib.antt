@@ -1,0 +1,2 @@
+pub mod NestCopies
+pub mod Independent
