@@ -5,8 +5,9 @@
 //! `Instructions`, `Shape`, `Early`, `Listed`, `Loops`), what the levels of a loop promise (`Nests`,
 //! `LoopWords`), the turns of a loop in a run (`Runs`, `Turns`, `Passes`, `Locations`, `Independent`,
 //! `Holds`), and what is known of the values at the words of a loop (`LoopCode`, `Facts`, `FactPass`,
-//! `FormRows`, `Equations`, `Classes`), of the turns that stay (`Trips`) and of memory that is accessed
-//! (`Accesses`), with what the laws about it ask of a run (`Executing`, `FactLaws`).
+//! `FormRows`, `Points`, `PooledPoints`, `Equations`, `Classes`), of the turns that stay (`Trips`) and of
+//! memory that is accessed (`Accesses`), with what the laws about it ask of a run (`Executing`,
+//! `FactLaws`).
 //! They speak of addresses, words and what these stand for, and of nothing of the code that finds them.
 #![tactic(auto)]
 
