@@ -10,7 +10,7 @@ pub use laws::{
     faults_change_nothing, first_ending, input_is_only_taken, output_only_grows, states_are_sound,
 };
 pub use machine::{End, Machine};
-pub use running::{Ran, run_counted, run_serial, start, step_serial};
+pub use running::{Ran, execute, run_counted, run_serial, start, step_serial};
 
 #[cfg(test)]
 mod tests;

@@ -63,10 +63,11 @@ fn answer_call<I: Source, O: Sink>(m: &mut Machine, input: &mut I, out: &mut O)
     }
 }
 
-// Executes an instruction at `pc`, in place of which the machine may have another, and gives the next
-// one, or none where the machine has an ending then.
+/// Executes the instruction `d` as if it stood at `pc`, whatever the machine's own `pc` is, and gives the
+/// address of the next one, or none where the machine has an ending then. Faults are those of
+/// `step_serial`; of `m.pc` nothing is told but through the answer.
 #[inline(always)]
-fn execute<I: Source, O: Sink>(
+pub fn execute<I: Source, O: Sink>(
     m: &mut Machine,
     pc: u64,
     d: &Decoded,
