@@ -1,5 +1,5 @@
 -- The blocks of turns, and the words that compute them.
-use Rattle.std.proofs.Common.{◌≡◌, ℕ, suc, ◌⊎◌, inl, inr, ◌+◌, ◌-◌, ◌*◌, ◌/◌, ◌<◌, ◌≤◌, ◌^◌, ◌%◌, refl, sym, ap, ◌∙◌, arith, pos, negsuc, false}
+use Rattle.std.proofs.Common.{◌≡◌, ℕ, suc, ◌⊎◌, inl, inr, ◌+◌, ◌-◌, ◌*◌, ◌/◌, ◌<◌, ◌≤◌, ◌^◌, ◌%◌, zero, refl, sym, subst, ap, ◌∙◌, arith, pos, negsuc, false}
 use Rattle.std.specs.Prelude.{◌==◌}
 use Rattle.std.proofs.lemmas.Bool.{cases_lt}
 use Rattle.std.specs.Int.{w64, cast_unsigned}
@@ -9,7 +9,7 @@ use Rattle.std.proofs.lemmas.Nat.{le-div}
 use Rattle.rv64_decode.specs.Row.{alu, alu_imm}
 use Rattle.rv64_decode.specs.declared.instr.AluOp.TheVariants.{Add, Sub, Mul, Divu, Remu}
 use Rattle.rv64_decode.specs.declared.instr.ImmOp.TheVariants.{Addi}
-use Rattle.turn_copies.specs.Regions.{rank, bound, block_first, block_end, BlocksLaw}
+use Rattle.turn_copies.specs.Regions.{rank, bound, block_first, block_end, HasAlone, BlocksLaw}
 
 pub rank_small : (k harts : ℕ) → 0 < harts → rank k harts < harts
 rank_small k harts h = mod-lt (k + harts - 1) h
@@ -71,11 +71,16 @@ rank_of k harts h =
     let n : suc k + harts - 1 ≡ k + harts = omega arith in
     ap (λ x. x % harts) n ∙ add-mod_right k harts ∙ mod-eq_of_lt h
 
-pub first_block : (turns harts : ℕ) → 1 < harts → block_first 1 turns harts ≡ 0
+first_hart : (harts : ℕ) → 0 < harts → rank (1 % harts) harts ≡ 0
+first_hart zero h = absurd (omega arith)
+first_hart (suc zero) h = refl
+first_hart (suc (suc n)) h =
+    ap (λ k. rank k (suc (suc n))) (mod-eq_of_lt (omega arith)) ∙ rank_of 0 (suc (suc n)) (omega arith)
+
+pub first_block : (turns harts : ℕ) → 0 < harts → block_first (1 % harts) turns harts ≡ 0
 first_block turns harts h =
-    let z : 0 < harts = omega arith in
     let none : 0 * turns ≡ 0 = omega arith in
-    ap (λ x. bound x turns harts) (rank_of 0 harts z) ∙ ap (λ x. x / harts) none ∙ zero-div harts
+    ap (λ x. bound x turns harts) (first_hart harts h) ∙ ap (λ x. x / harts) none ∙ zero-div harts
 
 pub last_rank : (harts : ℕ) → 0 < harts → suc (rank 0 harts) ≡ harts
 last_rank harts h =
@@ -111,12 +116,83 @@ last_some turns harts h some = go (cases_lt (block_first 0 turns harts) turns)
         let whole : suc r * turns ≡ harts * turns = ap (λ x. x * turns) last in
         absurd (omega (arith, low, up, whole, some))
 
+-- ---- each turn is in one block
+
+-- the block of rank b has turn t
+record Between (turns harts t b : ℕ) : Type 0 where
+  pub from : bound b turns harts ≤ t
+  pub before : t < bound (suc b) turns harts
+
+first_bound : (turns harts : ℕ) → bound 0 turns harts ≡ 0
+first_bound turns harts = let none : 0 * turns ≡ 0 = omega arith in ap (λ x. x / harts) none ∙ zero-div harts
+
+found : (turns harts t n : ℕ) → t < bound n turns harts → (b : ℕ) × (b < n) × Between turns harts t b
+found turns harts t zero h = let none = first_bound turns harts in absurd (omega (arith, none, h))
+found turns harts t (suc n) h = go (cases_lt t (bound n turns harts)) (λ k. found turns harts t n k)
+  where
+    go : (t < bound n turns harts) ⊎ (bound n turns harts ≤ t)
+        → (t < bound n turns harts → (b : ℕ) × (b < n) × Between turns harts t b)
+        → (b : ℕ) × (b < suc n) × Between turns harts t b
+    go (inl k) before = let x = before k in let small = x.1 in (x.0, omega (arith, small), x.2)
+    go (inr k) before = (n, omega arith, record { from = k; before = h })
+
+one_between : (turns harts t b c : ℕ) → 0 < harts → Between turns harts t b → Between turns harts t c → b ≤ c
+one_between turns harts t b c some x y = go (cases_lt c b)
+  where
+    go : (c < b) ⊎ (b ≤ c) → b ≤ c
+    go (inr k) = k
+    go (inl k) = let up = bounds_rise (suc c) b turns harts some k in absurd (omega (arith, up, x.from, y.before))
+
+-- a hart for each rank
+hart_of : (b harts : ℕ) → b < harts → (k : ℕ) × (k < harts) × (rank k harts ≡ b)
+hart_of b harts h = go (cases_lt (suc b) harts)
+  where
+    go : (suc b < harts) ⊎ (harts ≤ suc b) → (k : ℕ) × (k < harts) × (rank k harts ≡ b)
+    go (inl k) = (suc b, k, rank_of b harts h)
+    go (inr k) = let r = last_rank harts (omega arith) in (0, omega arith, omega (arith, r, k, h))
+
+same_hart : (j k harts : ℕ) → j < harts → k < harts → rank j harts ≡ rank k harts → j ≡ k
+same_hart zero zero harts a b e = refl
+same_hart zero (suc k) harts a b e =
+    let x = last_rank harts a in
+    let y = rank_of k harts (omega arith) in
+    absurd (omega (arith, x, y, e, b))
+same_hart (suc j) zero harts a b e =
+    let x = last_rank harts b in
+    let y = rank_of j harts (omega arith) in
+    absurd (omega (arith, x, y, e, a))
+same_hart (suc j) (suc k) harts a b e =
+    let x = rank_of j harts (omega arith) in
+    let y = rank_of k harts (omega arith) in
+    omega (arith, x, y, e)
+
+each_turn : (turns harts t : ℕ) → 0 < harts → t < turns → (k : ℕ) × HasAlone turns harts t k
+each_turn turns harts t some h =
+    let last = last_bound turns harts some in
+    let f = found turns harts t harts (omega (arith, last, h)) in
+    let b = f.0 in
+    let w = hart_of b harts f.1 in
+    let here : Between turns harts t (rank w.0 harts) = subst (Between turns harts t) (sym w.2) f.2 in (
+      w.0,
+      record {
+        below = w.1;
+        from = here.from;
+        before = here.before;
+        only = λ j small from before.
+            let there : Between turns harts t (rank j harts) = record { from = from; before = before } in
+            let up = one_between turns harts t (rank j harts) (rank w.0 harts) some there here in
+            let down = one_between turns harts t (rank w.0 harts) (rank j harts) some here there in
+            same_hart j w.0 harts small w.1 (omega (arith, up, down));
+      },
+    )
+
 pub blocks_law : BlocksLaw
 blocks_law turns harts some =
     record {
-      first = λ h. first_block turns harts h;
+      first = first_block turns harts some;
       next = λ k h. next_block k turns harts h;
       last = last_block turns harts some;
       some = λ h. last_some turns harts some h;
       rise = λ k. bounds_rise (rank k harts) (suc (rank k harts)) turns harts some (omega arith);
+      each = λ t h. each_turn turns harts t some h;
     }

@@ -16,3 +16,4 @@ pub mod Edges
 pub mod Leaving
 pub mod Sharing
 pub mod Stubs
+pub mod StubParts

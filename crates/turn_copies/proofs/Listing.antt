@@ -121,7 +121,7 @@ place_later : (l : Level) (B : LoopCode) (x : ℕ) (xs : List ℕ) (q v : ℕ) �
 place_later l B x xs q v e = ap (λ b. if b then q else place_in l B xs (q + copy_size l B x) v) (is_ne x v e)
 
 -- all places are up to the end
-end_up : (l : Level) (B : LoopCode) (us : List ℕ) (q : ℕ) → q ≤ end_in l B us q
+pub end_up : (l : Level) (B : LoopCode) (us : List ℕ) (q : ℕ) → q ≤ end_in l B us q
 end_up l B [] q = omega arith
 end_up l B (u ∷ us) q = let h = end_up l B us (q + copy_size l B u) in omega (arith, h)
 

@@ -24,7 +24,7 @@ use Rattle.stub_laws.proofs.Ends.{from_hart, here, world_of}
 use Rattle.turn_copies.specs.Memories.{Agree, replayed}
 use Rattle.turn_copies.specs.Copies.{Placing, Copies}
 use Rattle.turn_copies.specs.Bodies.{IsBody, IsDivided}
-use Rattle.turn_copies.specs.Passages.{in_slot, accesses_from, accesses_between, HasLocations, ReadsUnstored, no_slot, Passed, PassageLaw}
+use Rattle.turn_copies.specs.Passages.{VisitsLaw, in_slot, accesses_from, accesses_between, HasLocations, ReadsUnstored, no_slot, Passed, PassageLaw}
 use Rattle.turn_copies.proofs.Visits.{turn_up, turn_next, seen_next, arrived, Known, known_at_end}
 use Rattle.turn_copies.proofs.Following.{Past, in_memory, Follows}
 use Rattle.turn_copies.proofs.Passing.{step_law}
@@ -185,3 +185,21 @@ passage_law code l B roles s p t a b c h body d short copies lt starts ends begi
       log = e.log;
       memory = e.memory;
     })))
+
+-- an arrival's visits have its number
+pub visits_law : VisitsLaw
+visits_law l s t a b n first next low high = go n low high (cases_lt (turn l s n) (suc t))
+  where
+    go : (n : ℕ) → a ≤ n → n < b → (turn l s n < suc t) ⊎ (suc t ≤ turn l s n) → turn l s n ≡ t
+    go n low high (inl k) =
+        let up = turn_up l s a n low in
+        let is = first.turn in
+        omega (arith, up, is, k)
+    go zero low high (inr k) =
+        absurd (omega arith)
+    go (suc n) low high (inr k) =
+        let up = turn_up l s (suc n) b (omega arith) in
+        let is = next.turn in
+        let same : turn l s (suc n) ≡ suc t = omega (arith, up, is, k) in
+        let there = next_arrival l s t n b same (omega arith) next in
+        absurd (omega (arith, there, high))

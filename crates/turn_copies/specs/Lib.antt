@@ -8,3 +8,4 @@ pub mod Regions
 pub mod Edges
 pub mod Sharing
 pub mod Stubs
+pub mod StubWords

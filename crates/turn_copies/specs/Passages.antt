@@ -10,7 +10,7 @@ use Rattle.loop_data.specs.Independent.{Role, Private, in_cell}
 use Rattle.loop_data.specs.Locations.{CellMap, cell_at, address as cell_address, width_of, first_cell}
 use Rattle.loop_data.specs.LoopCode.{LoopCode}
 use Rattle.loop_data.specs.Runs.{State, run as run_state, walk, access}
-use Rattle.loop_data.specs.Turns.{IsArrival, Reads}
+use Rattle.loop_data.specs.Turns.{turn, IsArrival, Reads}
 use Rattle.stub_laws.specs.Harts.{IsHartAt}
 use Rattle.turn_copies.specs.Memories.{Agree, replayed}
 use Rattle.turn_copies.specs.Copies.{Placed, Placing, Copies}
@@ -53,6 +53,11 @@ accesses_from C s a (suc n) = logged (accesses_from C s a n) (outside_access C s
 -- those from visit a up to visit b
 abbrev pub accesses_between : CellMap → State → ℕ → ℕ → List Ask
 accesses_between C s a b = accesses_from C s a (b - a)
+
+-- the visits from an arrival up to the next one are those of its turn
+abbrev pub VisitsLaw : Type 0
+VisitsLaw = (l : Level) (s : State) (t a b n : ℕ) → IsArrival l s t a → IsArrival l s (suc t) b → a ≤ n → n < b
+    → turn l s n ≡ t
 
 -- a hart has come to the first copy, with the locations of arrival t at visit a. Private ones may hold anything, and
 -- its memory any bytes that the turn does not read or that are a stored cell's

@@ -75,14 +75,22 @@ RegionLaw = (code : List ℕ) (l : Level) (B : LoopCode) (roles : ℕ → Role) 
     → (n : ℕ) × Joined B.cells s a b (block_first h.number p h.harts) (block_end h.number p h.harts) h (join_place c.next)
     (run code n h)
 
--- blocks follow each other from turn 0 to the last: each hart's begins where the one's before ends. Hart 1 has the first
--- and hart 0 the last, which is never empty
+-- the block of this hart has turn t, and that of no other
+pub record HasAlone (turns harts t k : ℕ) : Type 0 where
+  pub below : k < harts
+  pub from : block_first k turns harts ≤ t
+  pub before : t < block_end k turns harts
+  pub only : (j : ℕ) → j < harts → block_first j turns harts ≤ t → t < block_end j turns harts → j ≡ k
+
+-- blocks follow each other from turn 0 to the last: each hart's begins where the one's before ends. Hart 1 has the first,
+-- or hart 0 where it is alone, and hart 0 the last, which is never empty. Each turn is in the block of one hart
 pub record AreBlocks (turns harts : ℕ) : Type 0 where
-  pub first : 1 < harts → block_first 1 turns harts ≡ 0
+  pub first : block_first (1 % harts) turns harts ≡ 0
   pub next : (k : ℕ) → suc k < harts → block_first (suc (suc k)) turns harts ≡ block_end (suc k) turns harts
   pub last : block_end 0 turns harts ≡ turns
   pub some : 0 < turns → block_first 0 turns harts < turns
   pub rise : (k : ℕ) → block_first k turns harts ≤ block_end k turns harts
+  pub each : (t : ℕ) → t < turns → (k : ℕ) × HasAlone turns harts t k
 
 abbrev pub BlocksLaw : Type 0
 BlocksLaw = (turns harts : ℕ) → 0 < harts → AreBlocks turns harts

@@ -4,9 +4,10 @@
 
 ghost use Rattle.turn_copies.specs.Edges.{SaveLaw, RefuseLaw, LeaveLaw};
 ghost use Rattle.turn_copies.specs.Listing.{PlacedLaw, BodyLaw, SizeLaw, NestLaw};
-ghost use Rattle.turn_copies.specs.Passages.{PassageLaw, TurnsLaw};
+ghost use Rattle.turn_copies.specs.Passages.{PassageLaw, VisitsLaw, TurnsLaw};
 ghost use Rattle.turn_copies.specs.Regions.{BlocksLaw, RegionLaw};
 ghost use Rattle.turn_copies.specs.Sharing.{AccessLaw, DisjointLaw, ReplayLaw};
+ghost use Rattle.turn_copies.specs.StubWords.{StubLaw, EndLaw};
 ghost use Rattle.turn_copies.specs.Stubs.{PlacesLaw};
 
 /// Words that stand for instructions are these instructions where they stand.
@@ -25,9 +26,10 @@ pub fn nests_are_bodies()
     ensures { NestLaw }
 {}
 
-/// A passage through the copies is a turn.
+/// A passage through the copies is a turn, and the visits of which it makes the accesses are that turn's.
 pub fn a_passage_is_a_turn()
-    ensures { PassageLaw }
+    ensures passage { PassageLaw }
+    ensures visits { VisitsLaw }
 {}
 
 /// A hart executes as many turns as it has left, and then comes to the join.
@@ -35,7 +37,7 @@ pub fn turns_follow_each_other()
     ensures { TurnsLaw }
 {}
 
-/// The blocks of all harts are the turns of the loop, one after the other.
+/// The blocks of all harts are the turns of the loop, one after the other, and each turn is in one block.
 pub fn blocks_are_all_turns()
     ensures { BlocksLaw }
 {}
@@ -70,4 +72,10 @@ pub fn turns_share_no_byte()
 /// The code of a divided loop as one list has each of its parts where the others lead to.
 pub fn parts_are_in_place()
     ensures { PlacesLaw }
+{}
+
+/// The words of a stub stand among others as its parts, and the places where they end are inside.
+pub fn stubs_stand()
+    ensures stands { StubLaw }
+    ensures ends { EndLaw }
 {}
