@@ -1,15 +1,20 @@
 -- The turns that a held check tells are independent, but for the bytes outside the cells.
-use Rattle.std.proofs.Common.{◌≡◌, ◌≢◌, ℕ, suc, ◌<◌, true, false, Some, ap, ◌∙◌, arith}
+use Rattle.std.proofs.Common.{◌≡◌, ◌≢◌, ℕ, suc, ◌<◌, true, false, Some, None, ap, ◌∙◌, arith}
+use Rattle.std.proofs.lemmas.Int.{ints}
+use Rattle.rv64_decode.specs.Area.{why, writable_of}
 use Rattle.loop_data.specs.declared.verdict.Cell.{Cell}
 use Rattle.loop_data.specs.Independent.{AreTurns, AreCells, in_cell}
-use Rattle.loop_data.specs.Locations.{cell_at}
+use Rattle.loop_data.specs.Locations.{cell_at, address, width_of}
 use Rattle.loop_data.specs.Lookups.{cell_map, use_of}
 use Rattle.loop_data.specs.Runs.{run, walk, goes_at, access}
 use Rattle.loop_data.specs.Turns.{turn, loads_byte, stores_byte, Leaves}
 use Rattle.loop_data.proofs.Tests.{yes_no}
-use Rattle.loop_choice.proofs.Tasks.{Task}
+use Rattle.alias_checks.specs.CellTests.{cell_permission, cell_range}
+use Rattle.alias_checks.specs.Holds.{CellHolds}
+use Rattle.loop_choice.proofs.RunAreas.{allowed_in}
+use Rattle.loop_choice.proofs.Tasks.{Task, all_at, cell_among}
 use Rattle.loop_choice.proofs.TurnsEnd.{fine_below, arrival_of}
-use Rattle.loop_choice.proofs.Visits.{fine_next, at_visit, inside_next, granted_is, own_access, off_cell, unwritten_cell}
+use Rattle.loop_choice.proofs.Visits.{fine_next, at_visit, inside_next, granted_is, own_access, off_cell, unwritten_cell, write_permits}
 
 module _ (k : Task) where
   -- the turns exist and execute words of the loop
@@ -41,3 +46,10 @@ module _ (k : Task) where
   -- no turn below that number leaves
   pub none_leaves : (n : ℕ) → turn k.nest.root k.state n < k.turns.root → ¬ Leaves k.nest.root k.state n
   none_leaves n lt leaves = yes_no _ (inside_next k n (fine_below k n lt) lt) leaves.out
+
+-- a cell that the check has tested
+pub stored_cell : (k : Task) (j : ℕ) (c : Cell) → cell_at k.cells.list.items j ≡ Some c → c.stored ≡ true → why writable_of k.state.memory (address k.state.regs c) (width_of c) ≡ None
+stored_cell k j c e stored =
+    let i = cell_among k.cells.list.items j c e in
+    let h : CellHolds k.state.regs k.state.memory c = all_at (CellHolds k.state.regs k.state.memory) k.cells.list.items c k.tested.cells_hold (j, i.0, i.1) in
+    allowed_in writable_of (cell_permission c) k.state.memory (cell_range k.state.regs c) (address k.state.regs c) (width_of c) (λ a p. write_permits c.stored a stored p) k.lie h.lies h.aligned (omega (arith, ints)) (omega (arith, ints))

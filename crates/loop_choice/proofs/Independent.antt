@@ -1,8 +1,9 @@
 -- A check of what is found of a loop that holds in a state at it means independence.
-use Rattle.std.proofs.Common.{◌≡◌, ℕ, suc, ◌<◌, inl, refl, ap, sym, ◌∙◌, subst, arith, slice_index}
+use Rattle.std.proofs.Common.{◌≡◌, ℕ, suc, ◌<◌, inl, true, Some, None, refl, ap, sym, ◌∙◌, subst, arith, slice_index}
 use Rattle.std.specs.List.{All, AllPairs}
 use Rattle.std.specs.Prelude.{slice_get}
 use Rattle.elf_image.specs.declared.image.Elf.{Elf}
+use Rattle.rv64_decode.specs.Area.{why, writable_of}
 use Rattle.loop_data.specs.declared.equations.Equations.{Equations}
 use Rattle.loop_data.specs.declared.graph.Graph.{Graph}
 use Rattle.loop_data.specs.declared.plans.Plan.{Plan}
@@ -12,13 +13,13 @@ use Rattle.loop_data.specs.Executing.{AreProgramWords}
 use Rattle.loop_data.specs.FactLaws.{SomePassLaw}
 use Rattle.loop_data.specs.Holds.{entry_of}
 use Rattle.loop_data.specs.Independent.{Independent, AreApart}
-use Rattle.loop_data.specs.Locations.{CellMap, no_cells}
+use Rattle.loop_data.specs.Locations.{CellMap, no_cells, cell_at, address, width_of}
 use Rattle.loop_data.specs.LoopCode.{code_of}
 use Rattle.loop_data.specs.LoopWords.{AreNest}
 use Rattle.loop_data.specs.Lookups.{cell_map, form_at}
 use Rattle.loop_data.specs.Nests.{Nest, nest_of}
 use Rattle.loop_data.specs.Results.{IsNestOf}
-use Rattle.loop_data.specs.Runs.{State}
+use Rattle.loop_data.specs.Runs.{State, run, walk, instr}
 use Rattle.loop_data.specs.Turns.{turn, Leaves}
 use Rattle.register_equations.specs.FormLaws.{AreResults}
 use Rattle.stack_slots.specs.CellLaws.{FoundLaw}
@@ -31,13 +32,14 @@ use Rattle.alias_checks.specs.Holds.{Holds as CheckHolds, HoldsLaw, CellHolds, C
 use Rattle.alias_checks.specs.TurnTests.{last_of}
 use Rattle.loop_choice.specs.Analysis.{AreFound}
 use Rattle.loop_choice.specs.Independence.{roles_of, IsHeld, IndependenceLaw, StayLaw}
+use Rattle.loop_choice.specs.States.{WordsLaw, StoredLaw}
 use Rattle.loop_choice.proofs.KnownCells.{known_cells}
 use Rattle.loop_choice.proofs.RunAreas.{state_lie, code_stays, bits_below}
 use Rattle.loop_choice.proofs.Tasks.{Laws, IsTested, Task}
 use Rattle.loop_choice.proofs.TurnsEnd.{fine_below}
 use Rattle.loop_choice.proofs.Visits.{holds_at, in_loop, word, pass_up_to}
 use Rattle.loop_choice.proofs.Roles.{have_roles}
-use Rattle.loop_choice.proofs.Held.{are_turns, are_cells, none_leaves}
+use Rattle.loop_choice.proofs.Held.{are_turns, are_cells, none_leaves, stored_cell}
 
 -- the laws of the crates below, with those that are used once
 pub record AllLaws : Type 0 where
@@ -149,8 +151,23 @@ module _ (laws : AllLaws) (elf : Elf) (G : Graph) (shape : LoopShape) (plan : Pl
   unfolding task
   stays = none_leaves task
 
+  executed : (n : ℕ) → turn nest.root s n < t.root → instr (run s n) ≡ (code_of G C).instr (walk s n)
+  unfolding task
+  executed n lt = word task n (fine_below task n lt) lt
+
+  may_be_stored : (j : ℕ) (c : Cell) → cell_at plan.cells.list.items j ≡ Some c → c.stored ≡ true
+      → why writable_of s.memory (address s.regs c) (width_of c) ≡ None
+  unfolding task
+  may_be_stored j c e stored = stored_cell task j c e stored
+
 pub independence_law : AllLaws → IndependenceLaw
 independence_law laws elf G shape plan check nest s t held = independent laws elf G shape plan check nest s t held
 
 pub stay_law : AllLaws → StayLaw
 stay_law laws elf G shape plan check nest s t held = stays laws elf G shape plan check nest s t held
+
+pub words_law : AllLaws → WordsLaw
+words_law laws elf G shape plan check nest s t held = executed laws elf G shape plan check nest s t held
+
+pub stored_law : AllLaws → StoredLaw
+stored_law laws elf G shape plan check nest s t held = may_be_stored laws elf G shape plan check nest s t held

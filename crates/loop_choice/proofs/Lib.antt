@@ -18,6 +18,7 @@ pub mod TurnsEnd
 pub mod Roles
 pub mod Held
 pub mod Independent
+pub mod States
 pub mod OneDependence
 pub mod OneVerdict
 pub mod OnePlan

@@ -33,7 +33,7 @@ use Rattle.trip_counts.specs.OneTrip.{OneTripLaw}
 use Rattle.loop_shapes.specs.Laws.{NestLaw}
 use Rattle.loop_choice.specs.Analysis.{AreTrips, AreFound}
 use Rattle.loop_choice.specs.Judging.{IsPlanOf}
-use Rattle.loop_choice.specs.OnePlan.{HasAllEntries, OnePlanLaw}
+use Rattle.loop_choice.specs.OnePlan.{OnePlanLaw}
 use Rattle.loop_choice.proofs.OneVerdict.{nest_without_early}
 
 -- the laws of the steps
@@ -59,7 +59,7 @@ same_cells c d s =
     ∙ ap (λ (v : Option Verdict). record { list = record { items = d.list.items }; uses = record { items = d.uses.items }; fault = v }) s.fault
 
 module _ (laws : Parts) (elf : Elf) (G : Graph) (s : LoopShape) (plan other : Plan) (check second : Check) (nest : AreNest G s.levels)
-    (one : IsPlanOf G elf s plan check) (two : IsPlanOf G elf s other second) (all : HasAllEntries plan check) (every : HasAllEntries other second) where
+    (one : IsPlanOf G elf s plan check) (two : IsPlanOf G elf s other second) where
   abbrev ls : List Level
   ls = s.levels
 
@@ -92,7 +92,7 @@ module _ (laws : Parts) (elf : Elf) (G : Graph) (s : LoopShape) (plan other : Pl
   forms = fun_ext (λ u. fun_ext (λ r. sym (laws.form G ls (cell_map plan.cells) one.equations two.equations answers u r)))
 
   classes : plan.classes ≡ other.classes
-  classes = laws.classes G ls (cell_map plan.cells) plan.classes other.classes nest one.found.confirmed.solved.classes found.confirmed.solved.classes all.classes every.classes
+  classes = laws.classes G ls (cell_map plan.cells) plan.classes other.classes nest one.found.confirmed.solved.classes found.confirmed.solved.classes one.entries.classes two.entries.classes
 
   same_trips : (at : ℕ → ℕ → Option LinearForm) (xs ys : List Trip) → AreTrips G ls at xs → AreTrips G ls at ys → xs ≡ ys
   same_trips at xs ys f g = same_lists xs ys (f.count ∙ sym g.count) trip
@@ -112,14 +112,14 @@ module _ (laws : Parts) (elf : Elf) (G : Graph) (s : LoopShape) (plan other : Pl
   list : check.accesses.list.items ≡ second.accesses.list.items
   list =
       laws.list G ls N.root.body (code_of G (cell_map plan.cells)) (form_at one.equations.points) check.accesses.list.items second.accesses.list.items nest (one.found.are_accesses N this)
-      (subst (λ (at : ℕ → ℕ → Option LinearForm). AreAccesses ls N.root.body (code_of G (cell_map plan.cells)) at second.accesses.list.items) forms (found.are_accesses N this)) all.accesses every.accesses
+      (subst (λ (at : ℕ → ℕ → Option LinearForm). AreAccesses ls N.root.body (code_of G (cell_map plan.cells)) at second.accesses.list.items) forms (found.are_accesses N this)) one.entries.accesses two.entries.accesses
 
   duties : check.duties ≡ second.duties
   duties =
       one.duties
       ∙ laws.duties G ls (cell_map plan.cells) one.equations two.equations answers
-      (subst (λ (ds : List Duty). All (λ (d : Duty). length d.around ≡ 3) ds) one.duties all.duties)
-      (subst (λ (ds : List Duty). All (λ (d : Duty). length d.around ≡ 3) ds) two.duties every.duties)
+      (subst (λ (ds : List Duty). All (λ (d : Duty). length d.around ≡ 3) ds) one.duties one.entries.duties)
+      (subst (λ (ds : List Duty). All (λ (d : Duty). length d.around ≡ 3) ds) two.duties two.entries.duties)
       ∙ sym two.duties
 
   pairs : check.pairs ≡ second.pairs
@@ -144,6 +144,6 @@ module _ (laws : Parts) (elf : Elf) (G : Graph) (s : LoopShape) (plan other : Pl
       ∙ ap (λ bs. record { cells = second.cells; trips = second.trips; duties = second.duties; accesses = second.accesses; pairs = second.pairs; areas = bs }) (one.areas ∙ sym two.areas)
 
 pub one_plan_and_check : Parts → NestLaw → OnePlanLaw
-one_plan_and_check laws nests elf G s plan other check second graph loop one two all every =
+one_plan_and_check laws nests elf G s plan other check second graph loop one two =
     let nest = nest_without_early nests elf G s graph loop one.early in
-    (one_plan laws elf G s plan other check second nest one two all every, one_check laws elf G s plan other check second nest one two all every)
+    (one_plan laws elf G s plan other check second nest one two, one_check laws elf G s plan other check second nest one two)

@@ -36,6 +36,7 @@ use Rattle.alias_checks.specs.Listing.{ArePairs, AreSameCells, bounds_of}
 use Rattle.loop_data.specs.Trips.{IsTripAt}
 use Rattle.loop_shapes.specs.Laws.{NestLaw}
 use Rattle.loop_choice.specs.Analysis.{cell_of, AreSound, AreConfirmed, AreTrips, IsFirstWithoutTrip, AreAccessesOf, IsIrregularAt, AreFound}
+use Rattle.loop_choice.specs.Entries.{HasAllEntries}
 use Rattle.loop_choice.specs.Judging.{IsOneOfLoops, IsPlanOf}
 use Rattle.loop_choice.specs.Pairs.{HasNoHopelessPair, IsFirstHopelessPair, IsDependence, IsDependenceAt}
 use Rattle.loop_choice.specs.Verdicts.{IsNestVerdict, IsVerdictBy, IsVerdict}
@@ -161,8 +162,8 @@ dependence_there list i j a b v l m p q d = record {
 pub plan_of : (G : Graph) (elf : Elf) (s : LoopShape) (e : Equations) (trips : List Trip) (list : List Access) (plan : Plan) (check : Check) → s.early ≡ None
     → AreFound G s.levels plan.cells plan.classes e trips list → HasNoHopelessPair list → plan.shape ≡ s → AreSameCells check.cells plan.cells
     → check.trips ≡ trips → check.duties ≡ e.duties → check.accesses.list.items ≡ list → ArePairs list check.pairs → check.areas ≡ bounds_of elf
-    → IsPlanOf G elf s plan check
-plan_of G elf s e trips list plan check early found none shape cells same_trips duties same_list pairs areas = record {
+    → HasAllEntries plan check → IsPlanOf G elf s plan check
+plan_of G elf s e trips list plan check early found none shape cells same_trips duties same_list pairs areas entries = record {
   early = early;
   shape = shape;
   equations = e;
@@ -174,6 +175,7 @@ plan_of G elf s e trips list plan check early found none shape cells same_trips 
   duties = duties;
   pairs = subst (λ (xs : List Access). ArePairs xs check.pairs) (sym same_list) pairs;
   areas = areas;
+  entries = entries;
 }
 
 pub free_verdict : (G : Graph) (elf : Elf) (s : LoopShape) (plan : Plan) (check : Check) → IsPlanOf G elf s plan check → IsVerdict G s Parallel

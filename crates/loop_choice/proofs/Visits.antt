@@ -80,7 +80,7 @@ read_permits : (b : Bool) (a : Area) → permits (if b then ReadAndWrite else Re
 read_permits true a e = (Rattle.loop_data.proofs.Tests.and_true a.readable a.writable e).0
 read_permits false a e = e
 
-write_permits : (b : Bool) (a : Area) → b ≡ true → permits (if b then ReadAndWrite else Read) a ≡ true → writable_of a ≡ true
+pub write_permits : (b : Bool) (a : Area) → b ≡ true → permits (if b then ReadAndWrite else Read) a ≡ true → writable_of a ≡ true
 write_permits true a q e = (Rattle.loop_data.proofs.Tests.and_true a.readable a.writable e).1
 write_permits false a q e = absurd (cc)
 

@@ -13,6 +13,7 @@ use Rattle.alias_checks.specs.declared.lists.Check.{Check}
 use Rattle.alias_checks.specs.Listing.{ArePairs, AreSameCells, bounds_of}
 use Rattle.loop_choice.specs.declared.judged.Judged.{Judged}
 use Rattle.loop_choice.specs.Analysis.{AreFound}
+use Rattle.loop_choice.specs.Entries.{HasAllEntries}
 use Rattle.loop_choice.specs.Pairs.{HasNoHopelessPair}
 use Rattle.loop_choice.specs.Verdicts.{IsVerdict}
 
@@ -21,7 +22,7 @@ abbrev pub IsOneOfLoops : Graph → LoopShape → Type 0
 IsOneOfLoops G s = IsLoop G s ⊎ IsListedEdge G s
 
 -- a plan and a check are of what is found of the loop, whose shape decides no verdict and no two of whose accesses are
--- hopeless
+-- hopeless; each is kept in arrays of its own length
 pub record IsPlanOf (G : Graph) (elf : Elf) (s : LoopShape) (plan : Plan) (check : Check) : Type 0 where
   pub early : s.early ≡ None
   pub shape : plan.shape ≡ s
@@ -33,6 +34,7 @@ pub record IsPlanOf (G : Graph) (elf : Elf) (s : LoopShape) (plan : Plan) (check
   pub duties : check.duties ≡ equations.duties
   pub pairs : ArePairs check.accesses.list.items check.pairs
   pub areas : check.areas ≡ bounds_of elf
+  pub entries : HasAllEntries plan check
 
 -- they are there exactly where the verdict is Parallel
 abbrev pub IsPlanFor : Graph → Elf → LoopShape → Verdict → Option (Plan × Check) → Type 0

@@ -1,6 +1,7 @@
 pub mod Analysis
 pub mod Pairs
 pub mod Verdicts
+pub mod Entries
 pub mod Judging
 pub mod Outcomes
 pub mod Choice
@@ -9,3 +10,4 @@ pub mod OneVerdict
 pub mod OnePlan
 pub mod Independence
 pub mod Asking
+pub mod States

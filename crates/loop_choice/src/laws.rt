@@ -3,6 +3,7 @@ ghost use Rattle.loop_choice.specs.Choice.{OneChoiceLaw, SameChoiceLaw};
 ghost use Rattle.loop_choice.specs.Independence.{IndependenceLaw, StayLaw};
 ghost use Rattle.loop_choice.specs.OnePlan.{OnePlanLaw};
 ghost use Rattle.loop_choice.specs.OneVerdict.{OneNestVerdictLaw, OneVerdictLaw};
+ghost use Rattle.loop_choice.specs.States.{ProgramLaw, StoredLaw, WordsLaw};
 
 use affine_addresses::laws::{addresses_are_values, each_access_is_listed, one_list_of_accesses};
 use alias_checks::laws::{
@@ -68,6 +69,27 @@ pub fn one_plan()
 pub fn held_turns_are_independent()
     ensures independent { IndependenceLaw }
     ensures stay { StayLaw }
+{
+    one_pass();
+    cells_are_found();
+    forms_are_right();
+    uses_ask_for_cells();
+    trips_tell_stays();
+    addresses_are_values();
+    each_access_is_listed();
+    answers_tell_tests();
+    entry_values_are_of_states();
+    held_values_do_not_wrap();
+    held_turns_are_apart();
+}
+
+/// A state at a loop of an executable has the words of the loop in memory, as the graph has them. Where the check of a
+/// loop that is judged Parallel holds in it, the turns that it tells execute them, and a store to the bytes of a stored
+/// cell is not refused.
+pub fn states_have_the_program()
+    ensures program { ProgramLaw }
+    ensures words { WordsLaw }
+    ensures stored { StoredLaw }
 {
     one_pass();
     cells_are_found();

@@ -4,6 +4,7 @@
 mod choice;
 mod copies;
 mod dependence;
+mod entries;
 pub mod judged;
 mod judging;
 pub mod laws;

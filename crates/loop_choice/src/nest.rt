@@ -11,6 +11,7 @@ ghost use Rattle.loop_choice.specs.Outcomes.{IsOutcome};
 
 use crate::copies::same_shape;
 use crate::dependence::{dependence_at, first_hopeless};
+use crate::entries::have_all_entries;
 use crate::outcome::Outcome;
 use crate::trips::trips_of;
 use affine_addresses::{Irregular, accesses};
@@ -88,6 +89,7 @@ fn with_accesses(
                 cells,
                 classes,
             };
+            have_all_entries(&plan, &check);
             Ok(Outcome::Free { plan, check })
         }
     }

@@ -24,4 +24,4 @@ returns-in_ok-shape-in-None c =
     plan_of c.args.graph.now c.args.elf.now c.args.shape.now c.args.equations.now c.args.trips.now _ _
     c.in_ok-check-in-None.check c.requires.early c.requires.found
     (subst HasNoHopelessPair c.as_slice-list.ensures.value c.in-None.ensures.none) c.in_ok-shape-in-None.ensures
-    told.cells told.trips told.duties told.accesses told.pairs told.areas
+    told.cells told.trips told.duties told.accesses told.pairs told.areas c.have_all_entries.ensures
