@@ -162,10 +162,11 @@ check_words c words areas cells trips duties accesses pairs e1 e2 e3 e4 e5 e6 h 
 
 pub check_kept : (c : Check) (cells : List Cell) (trips : List Trip) (duties : List Duty) (accesses : List Access) → cells ≡
     c.cells.list.items → trips ≡ c.trips → duties ≡ c.duties → accesses ≡ c.accesses.list.items
-    → length cells ≤ 16 → All (λ (t : Trip). IsForm t.start) trips → All (λ (t : Trip). IsForm t.bound) trips → All
+    → length cells ≤ 16 → length accesses ≤ 32 → All (λ (t : Trip). IsForm t.start) trips → All (λ (t : Trip). IsForm t.bound) trips → All
     (λ (d : Duty). IsForm d.form) duties → All (λ (a : Access). IsForm a.form) accesses → KeepsLimits c
-check_kept c cells trips duties accesses e0 e1 e2 e3 few s b d a = record {
+check_kept c cells trips duties accesses e0 e1 e2 e3 few fewer s b d a = record {
   few_cells = subst (λ (l : List Cell). length l ≤ 16) e0 few;
+  few_accesses = subst (λ (l : List Access). length l ≤ 32) e3 fewer;
   starts = subst (All (λ (t : Trip). IsForm t.start)) e1 s;
   bounds = subst (All (λ (t : Trip). IsForm t.bound)) e1 b;
   duties = subst (All (λ (d : Duty). IsForm d.form)) e2 d;

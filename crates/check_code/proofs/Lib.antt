@@ -30,3 +30,4 @@ pub mod Rooms
 pub mod Located
 pub mod Found
 pub mod Plain
+pub mod Sizes

@@ -57,11 +57,13 @@ abbrev pub IsLowArea : Bounds → Type 0
 IsLowArea b = (b.0 < 2 ^ 31) × (b.1 < 2 ^ 31)
 
 -- what the words of a check take to be written: offsets and areas have room in instructions, there is a root and at
--- most three inner loops, and each two accesses of which one is a store are a pair
+-- most three inner loops, no more words owe anything than a loop has, and each two accesses of which one is a store are
+-- a pair
 pub record HasRoom (c : Check) : Type 0 where
   pub offsets : All (λ (d : Cell). HasOffset d.base d.offset) c.cells.list.items
   pub some_trips : 0 < length c.trips
   pub few_trips : length c.trips ≤ 4
+  pub few_duties : length c.duties ≤ 256
   pub pairs : ArePairs c.accesses.list.items c.pairs
   pub few_areas : length c.areas ≤ 128
   pub low_areas : All IsLowArea c.areas
@@ -73,9 +75,10 @@ pub record IsCheckable (c : Check) : Type 0 where
   pub duties : All (IsDutyOver (length c.cells.list.items) (length c.trips)) c.duties
   pub accesses : All (IsAccessOver (length c.cells.list.items) (length c.trips)) c.accesses.list.items
 
--- it has few cells, and its forms keep to their limits, as their types promise
+-- it has few cells and accesses, and its forms keep to their limits, as their types promise
 pub record KeepsLimits (c : Check) : Type 0 where
   pub few_cells : length c.cells.list.items ≤ 16
+  pub few_accesses : length c.accesses.list.items ≤ 32
   pub starts : All (λ (t : Trip). IsForm t.start) c.trips
   pub bounds : All (λ (t : Trip). IsForm t.bound) c.trips
   pub duties : All (λ (d : Duty). IsForm d.form) c.duties

@@ -13,3 +13,4 @@ pub mod CellCode
 pub mod CheckCode
 pub mod Checkable
 pub mod CheckLaws
+pub mod Sizes

@@ -255,6 +255,79 @@ fn a_pass_too_short_for_the_turns_fails(rt: HostRuntime) -> Result<(), Fail> {
     Ok(())
 }
 
+// The words behind the two addresses and their distance: what the passes of the inner loops lead to, and the tests by
+// the stride of the root and by the greatest divisor of those of the inner loops.
+const LANES: [u32; 23] = [
+    0x0180_1F8B, // xp.get x31, 24
+    0x0000_1F37, // lui x30, 0x1
+    0xE70F_0F1B, // addiw x30, x30, -400
+    0x03EF_8FB3, // mul x31, x31, x30
+    0x01F3_0333, // add x6, x6, x31
+    0x0190_1F8B, // xp.get x31, 25
+    0x0000_1F37, // lui x30, 0x1
+    0x5A8F_0F1B, // addiw x30, x30, 1448
+    0x03EF_8FB3, // mul x31, x31, x30
+    0x01F3_0333, // add x6, x6, x31
+    0x0062_83B3, // add x7, x5, x6
+    0x0083_8393, // addi x7, x7, 8
+    0x0000_0EB7, // lui x29, 0
+    0x008E_8E9B, // addiw x29, x29, 8
+    0x067E_D063, // bge x29, x7, 96
+    0x0082_8393, // addi x7, x5, 8
+    0x007E_CE63, // blt x29, x7, 28
+    0x0170_1F8B, // xp.get x31, 23
+    0x03DF_8FB3, // mul x31, x31, x29
+    0x01F3_83B3, // add x7, x7, x31
+    0x0000_0F37, // lui x30, 0
+    0x738F_0F1B, // addiw x30, x30, 1848
+    0x047F_5063, // bge x30, x7, 64
+];
+
+#[test]
+fn lanes_of_three_levels(rt: HostRuntime) -> Result<(), Fail> {
+    let first = Form {
+        constant: 0,
+        terms: Terms::entry(Loc::Reg(10)),
+        turns: [8, 3696, 5544],
+    };
+    let second = Form {
+        constant: 0,
+        terms: Terms::entry(Loc::Reg(11)),
+        turns: [8, 3696, 5544],
+    };
+    let mut code = Vec::new(rt.alloc());
+    alike(&mut code, &load(first, [0, 1, 2]), &load(second, [0, 1, 2]))?;
+    assert_eq!(rt; code.len(), 57);
+    assert!(rt; &code.as_slice()[19..42] == LANES.as_slice());
+    // 231 turns take 1848 bytes, the divisor of 3696 and 5544; 240 and 250 passes lead 2273040 bytes far.
+    for (a, b, apart) in [
+        (100_000, 100_000, true),
+        (100_000, 100_001, false),
+        (100_001, 100_000, false),
+        (100_000, 2_374_887, false),
+        (100_000, 2_374_888, true),
+        (2_374_888, 100_000, true),
+    ] {
+        let found = leaves(code.as_slice(), a, b);
+        assert_eq!(rt; found, place(code.as_slice(), apart), "of {a} and {b}");
+    }
+    Ok(())
+}
+
+#[test]
+fn lanes_too_short_for_the_turns_fail(rt: HostRuntime) -> Result<(), Fail> {
+    let first = Form {
+        constant: 0,
+        terms: Terms::entry(Loc::Reg(10)),
+        turns: [8, 3680, 5520],
+    };
+    let second = first.copied();
+    let mut code = Vec::new(rt.alloc());
+    alike(&mut code, &load(first, [0, 1, 2]), &load(second, [0, 1, 2]))?;
+    assert_eq!(rt; leaves(code.as_slice(), 100_000, 0), Some(TARGET as u64));
+    Ok(())
+}
+
 #[test]
 fn other_shapes_are_told_apart_by_their_ranges(rt: HostRuntime) -> Result<(), Fail> {
     let first = Form {

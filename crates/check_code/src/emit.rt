@@ -15,6 +15,7 @@ ghost use Rattle.check_code.specs.MeetCode.{keep_off_code};
 ghost use Rattle.check_code.specs.CheckCode.{cells_code, all_clear_code, inners_code, trips_code, all_keep_off_code, pair_at_code, is_check_word, check_code};
 ghost use Rattle.check_code.specs.Checkable.{IsLowArea, HasRoom, IsCheckable, RoomLaw, FoundLaw};
 ghost use Rattle.check_code.specs.CheckLaws.{TellsCheck};
+ghost use Rattle.check_code.specs.Sizes.{most_words, CanBeAimed};
 
 use crate::accesses::{push_access, push_keep_off};
 use crate::cells::{push_cell, push_clear};
@@ -212,12 +213,14 @@ pub fn found_checks_are_told()
 /// The words of a check. A hart that arrives at the loop and runs them comes to their end where the check tells turns,
 /// with the number of the last in slot 23, those of the inner loops' last passes in the slots from 24 on and the cells'
 /// values in the slots of their numbers; and where it tells none, to the target of the jumps with offset 0. It has then
-/// written no memory.
+/// written no memory. There are few enough words that each jump can be aimed behind them.
 pub fn emit_check(alloc: Global, check: &Check) -> Result<Vec<u32>, AllocError>
     requires { HasRoom check.now }
     ensures words { IfOk result (λ code. readings code.items ≡ somes (check_code check.now)) }
     ensures plain { IfOk result (λ code. list_all is_check_word (check_code check.now) ≡ true) }
     ensures tells { IfOk result (λ code. IsCheckable check.now → TellsCheck check.now code.items) }
+    ensures short { IfOk result (λ code. length code.items ≤ most_words) }
+    ensures near { IfOk result (λ code. CanBeAimed code.items) }
 {
     let areas = check.areas.as_slice();
     let cells = check.cells.list.as_slice();
