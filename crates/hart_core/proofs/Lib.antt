@@ -1,0 +1,6 @@
+mod Searched
+mod Steps
+mod Sums
+mod Waking
+mod Happening
+mod Parts

@@ -1,0 +1,10 @@
+pub mod Machine
+pub mod Shown
+pub mod Start
+pub mod Entering
+pub mod Rows
+pub mod Events
+pub mod Counting
+pub mod Acting
+pub mod Laws
+pub mod Sample
