@@ -1,0 +1,5 @@
+mod FormLimits
+mod CheckLimits
+mod Entries
+mod Leading
+mod Whole
