@@ -25,13 +25,13 @@ use Rattle.stub_laws.specs.Code.{readings, somes}
 use Rattle.turn_copies.specs.StubWords.{IsStub}
 use Rattle.image_writer.specs.declared.image.Entry.{Entry}
 use Rattle.loop_choice.specs.declared.judged.Judged.{Judged}
-use Rattle.loop_choice.specs.Choice.{AreChosen, OneChoiceLaw}
+use Rattle.loop_choice.specs.Choice.{AreChosen, AreTooMany, OneChoiceLaw}
 use Rattle.loop_choice.specs.Judging.{IsOneOfLoops}
 use Rattle.loop_choice.specs.OnePlan.{OnePlanLaw}
 use Rattle.loop_choice.specs.OneVerdict.{OneVerdictLaw}
 use Rattle.loop_division.specs.Division.{AreStubsOf, IsDivision, IsTooLong}
 use Rattle.loop_division.specs.LoopVerdicts.{IsJudgedAs, AreJudgedAs, AreVerdicts, ChoosesTooMany}
-use Rattle.loop_division.specs.OneDivision.{OneWordLaw, OneDivisionLaw, ApartLaw}
+use Rattle.loop_division.specs.OneDivision.{OneWordLaw, OneVerdictsLaw, OneDivisionLaw, ApartLaw, OneRefusalLaw}
 use Rattle.loop_division.specs.Stubs.{Stub, AreShort, AreStubWords, AreWordsOf, IsStubAt, AreStubs, entries_of, words_of, words_with_cells}
 use Rattle.loop_division.proofs.Words.{one_meaning_x}
 
@@ -246,3 +246,26 @@ apart word parts = record {
         let stubs = same_stubs_of word parts elf a.stubs b.stubs a.are b.are in
         let counts : n ≡ length code = b.count ∙ ap (λ (ss : List Stub). length (words_of ss)) (sym stubs) ∙ ap length (sym a.code_is) in
         let room = a.room in let many = b.many in absurd (omega arith)
+
+pub one_verdicts : OneWordLaw → Parts → OneVerdictsLaw
+one_verdicts word parts elf g h shapes loops all others a b = same_verdicts word parts elf g h shapes loops all others a b
+
+pub one_refusal : OneWordLaw → Parts → OneRefusalLaw
+one_refusal word parts = record {
+  loops = λ elf m n a b. parts.choice.counts b.all m n (moved elf m n a b) b.many;
+  room = λ elf m n a b.
+      a.count ∙ ap (λ (ss : List Stub). length (words_of ss)) (same_stubs_of word parts elf a.stubs b.stubs a.are b.are)
+      ∙ sym b.count;
+  apart = λ elf m n a b. parts.choice.apart a.all b.are.places m (chosen elf m n a b) a.many;
+}
+  where
+    moved : (elf : Elf) (m n : ℕ) (a : ChoosesTooMany elf m) (b : ChoosesTooMany elf n) → AreTooMany b.all m
+    moved elf m n a b =
+        subst (λ (js : List Judged). AreTooMany js m)
+        (same_verdicts word parts elf a.graph b.graph a.shapes b.shapes a.all b.all a.verdicts b.verdicts) a.many
+
+    chosen : (elf : Elf) (m n : ℕ) (a : ChoosesTooMany elf m) (b : IsTooLong elf n) → AreChosen a.all b.are.places
+    chosen elf m n a b =
+        subst (λ (js : List Judged). AreChosen js b.are.places)
+        (same_verdicts word parts elf b.are.graph a.graph b.are.shapes a.shapes b.are.all a.all b.are.verdicts a.verdicts)
+        b.are.chosen

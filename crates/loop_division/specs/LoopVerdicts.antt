@@ -1,5 +1,7 @@
 -- The verdicts of all loops of an executable.
-use Rattle.std.specs.Prelude.{◌≡◌, ◌+◌, ℕ, List, [], ◌∷◌, None}
+use Rattle.std.specs.Prelude.{◌≡◌, ◌+◌, ◌<◌, ◌^◌, ℕ, List, [], ◌∷◌, None, length}
+use Rattle.std.specs.List.Sorted.{IsStrictlyIncreasing}
+use Rattle.elf_image.specs.Layout.{IsLoadable}
 use Rattle.elf_image.specs.declared.image.Elf.{Elf}
 use Rattle.loop_data.specs.declared.graph.Graph.{Graph}
 use Rattle.loop_data.specs.declared.shape.LoopShape.{LoopShape}
@@ -7,7 +9,7 @@ use Rattle.loop_data.specs.Graphs.{IsGraph}
 use Rattle.loop_data.specs.Loops.{AreLoops}
 use Rattle.flow_recovery.specs.Refusals.{ReachesAtLeast, word_limit}
 use Rattle.loop_choice.specs.declared.judged.Judged.{Judged}
-use Rattle.loop_choice.specs.Choice.{AreTooMany}
+use Rattle.loop_choice.specs.Choice.{AreTooMany, headers_of}
 use Rattle.loop_choice.specs.Judging.{body_of}
 use Rattle.loop_choice.specs.Verdicts.{IsVerdict}
 
@@ -42,3 +44,13 @@ pub record ChoosesTooMany (elf : Elf) (count : ℕ) : Type 0 where
   pub all : List Judged
   pub verdicts : AreVerdicts elf graph shapes all
   pub many : AreTooMany all count
+
+-- verdicts have ascending headers, and there are fewer than 2 ^ 32
+pub record AreOrdered (all : List Judged) : Type 0 where
+  pub ascending : IsStrictlyIncreasing (headers_of all)
+  pub few : length all < 2 ^ 32
+
+-- so it is with those of an executable
+abbrev pub VerdictOrderLaw : Type 0
+VerdictOrderLaw = (elf : Elf) (G : Graph) (shapes : List LoopShape) (all : List Judged) → IsLoadable elf
+    → AreVerdicts elf G shapes all → AreOrdered all

@@ -1,8 +1,9 @@
 ghost use Rattle.loop_division.specs.Division.{OrderLaw};
-ghost use Rattle.loop_division.specs.OneDivision.{OneWordLaw, OneDivisionLaw, ApartLaw};
+ghost use Rattle.loop_division.specs.LoopVerdicts.{VerdictOrderLaw};
+ghost use Rattle.loop_division.specs.OneDivision.{OneWordLaw, OneVerdictsLaw, OneDivisionLaw, ApartLaw, OneRefusalLaw};
 ghost use Rattle.loop_division.specs.Sample.{NoCodeLaw};
 
-use flow_recovery::laws::one_graph;
+use flow_recovery::laws::{one_graph, reached_words};
 use loop_choice::laws::{one_choice, one_plan, one_verdict};
 use loop_shapes::laws::one_list;
 
@@ -12,10 +13,13 @@ pub fn one_word()
     ensures { OneWordLaw }
 {}
 
-/// An executable has one division, and where it has one no refusal is said of it.
+/// An executable has one list of verdicts. It has one division, and then no refusal is said of it, or it is refused for
+/// one reason.
 pub fn one_division()
+    ensures verdicts { OneVerdictsLaw }
     ensures one { OneDivisionLaw }
     ensures apart { ApartLaw }
+    ensures refusal { OneRefusalLaw }
 {
     one_word();
     one_graph();
@@ -23,6 +27,13 @@ pub fn one_division()
     one_verdict();
     one_plan();
     one_choice();
+}
+
+/// The verdicts of an executable have ascending headers, and there are fewer than 2^32.
+pub fn verdicts_are_in_order()
+    ensures { VerdictOrderLaw }
+{
+    reached_words();
 }
 
 /// The entries of an executable have ascending headers, and there are at most 1,024.
