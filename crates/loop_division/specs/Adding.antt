@@ -21,8 +21,9 @@ pub record IsParallelAt (G : Graph) (shapes : List LoopShape) (place : ℕ) : Ty
   pub is : slice_get shapes place ≡ Some shape
   pub loop : IsParallelLoop G shape
 
--- of the stubs of the loops at some places, those are added that do not belong to the rest of the places: so many words,
--- which are kept as long as they are not too many
+-- of the loops at these places, the stubs of all but the rest are done, whatever stubs the rest have: with those behind
+-- them they are the stubs of all. The entries and the number of words are those of the stubs that are done, and so are
+-- the words that are kept, as long as they are not too many
 pub record AreAdded (elf : Elf) (G : Graph) (shapes : List LoopShape) (places rest : List ℕ) (entries : List Entry)
     (code : List ℕ) (count : ℕ) : Type 0 where
   pub done : List Stub

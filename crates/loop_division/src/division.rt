@@ -53,8 +53,8 @@ fn divided(
     Ok(Division { entries, code })
 }
 
-/// The entries and the added words of an executable: an entry and a stub for each chosen loop. More than 262,144 reached
-/// words, 1,024 chosen loops and 4,194,304 added words are refused, each only where those before it are not.
+/// The entries and the added words of an executable: an entry and a stub for each chosen loop. More than 262,144
+/// reached words, 1,024 chosen loops and 4,194,304 added words are refused, each only where those before it are not.
 pub fn divide(alloc: Global, elf: &Elf) -> Result<Division, DivideErr>
     requires { IsLoadable elf.now }
     ensures division { IfOk result (λ d. IsDivision elf.now d.entries.items d.code.items) }

@@ -1,5 +1,7 @@
-// Divisions of whole executables. Numbers of words and places of parts are counted by hand: a stub has 7 words before its
-// check, and the turns of one loop without inner loops are told by 30.
+// Divisions of whole executables. Numbers of words and places of parts are counted by hand: a stub has 7 words before
+// its check, and the turns of one loop without inner loops are told by 30.
+
+mod stub_words;
 
 use crate::{DivideErr, Division, divide};
 use elf_image::read_elf;
@@ -8,104 +10,67 @@ use std::alloc::{AllocError, Global};
 use std::process::Abort;
 use std::test::Fail;
 
-// A word among the added words.
-#[derive(Clone, Copy)]
-struct At {
-    place: usize,
-    word: u32,
-}
-
-// Of the two stubs of a sample that adds arrays: the first word of each part, and words behind them. The check of the
-// first has 251 words, that of the second 315.
-static SUMS: [At; 22] = [
-    At {
-        place: 0,
-        word: 0x0102_800B,
-    }, // xp.put 16, x5
-    At {
-        place: 6,
-        word: 0x016F_800B,
-    }, // xp.put 22, x31
-    At {
-        place: 258,
-        word: 0x0000_200B,
-    }, // xp.par
-    At {
-        place: 259,
-        word: 0x0000_528B,
-    }, // xp.id x5
-    At {
-        place: 301,
-        word: 0x0055_B023,
-    }, // sd x5, 0(x11), the header's copy
-    At {
-        place: 302,
-        word: 0x0052_8333,
-    }, // add x6, x5, x5
-    At {
-        place: 307,
-        word: 0x0040_006F,
-    }, // jal x0, 4, for the branch at which the loop is left
-    At {
-        place: 308,
-        word: 0x01D2_800B,
-    }, // xp.put 29, x5
-    At {
-        place: 316,
-        word: 0x0000_300B,
-    }, // xp.join
-    At {
-        place: 317,
-        word: 0x0000_400B,
-    }, // xp.back
-    At {
-        place: 318,
-        word: 0x0100_128B,
-    }, // xp.get x5, 16
-    At {
-        place: 325,
-        word: 0x0000_400B,
-    }, // xp.back
-    At {
-        place: 326,
-        word: 0x0102_800B,
-    }, // xp.put 16, x5
-    At {
-        place: 332,
-        word: 0x016F_800B,
-    }, // xp.put 22, x31
-    At {
-        place: 648,
-        word: 0x0000_200B,
-    }, // xp.par
-    At {
-        place: 649,
-        word: 0x0000_528B,
-    }, // xp.id x5
-    At {
-        place: 691,
-        word: 0x0005_B703,
-    }, // ld x14, 0(x11), the header's copy
-    At {
-        place: 699,
-        word: 0x01D2_800B,
-    }, // xp.put 29, x5
-    At {
-        place: 707,
-        word: 0x0000_300B,
-    }, // xp.join
-    At {
-        place: 708,
-        word: 0x0000_400B,
-    }, // xp.back
-    At {
-        place: 709,
-        word: 0x0100_128B,
-    }, // xp.get x5, 16
-    At {
-        place: 716,
-        word: 0x0000_400B,
-    }, // xp.back
+// Of the two stubs of a sample that adds arrays: the first and the last word of each part, with their places among all
+// added words. The check of the first has 251 words, that of the second 315.
+static SUMS: [(usize, u32); 38] = [
+    // saved registers
+    (0, 0x0102_800B), // xp.put 16, x5
+    (6, 0x016F_800B), // xp.put 22, x31
+    // the number of turns
+    (7, 0x0000_02B7), // lui x5, 0x0
+    (36, 0x0172_800B), // xp.put 23, x5
+    // the ranges of accesses
+    (37, 0x0000_02B7), // lui x5, 0x0
+    (140, 0x2C80_006F), // jal x0, 712
+    // the pairs
+    (141, 0x0000_02B7), // lui x5, 0x0
+    (257, 0x0F40_006F), // jal x0, 244
+    // the fork
+    (258, 0x0000_200B), // xp.par
+    (274, 0x0A80_006F), // jal x0, 168
+    // the first turn of a block
+    (275, 0x0100_128B), // xp.get x5, 16
+    (300, 0x0040_006F), // jal x0, 4
+    // the copies
+    (301, 0x0055_B023), // sd x5, 0(x11)
+    (307, 0x0040_006F), // jal x0, 4
+    // the next turn, and the join
+    (308, 0x01D2_800B), // xp.put 29, x5
+    (316, 0x0000_300B), // xp.join
+    // the way back
+    (317, 0x0000_400B), // xp.back
+    // where the check fails
+    (318, 0x0100_128B), // xp.get x5, 16
+    (325, 0x0000_400B), // xp.back
+    // the second stub: saved registers
+    (326, 0x0102_800B), // xp.put 16, x5
+    (332, 0x016F_800B), // xp.put 22, x31
+    // the number of turns
+    (333, 0x0000_02B7), // lui x5, 0x0
+    (362, 0x0172_800B), // xp.put 23, x5
+    // the ranges of accesses
+    (363, 0x0000_02B7), // lui x5, 0x0
+    (530, 0x2CC0_006F), // jal x0, 716
+    // the pairs
+    (531, 0x0000_02B7), // lui x5, 0x0
+    (647, 0x0F80_006F), // jal x0, 248
+    // the fork
+    (648, 0x0000_200B), // xp.par
+    (664, 0x0AC0_006F), // jal x0, 172
+    // the first turn of a block
+    (665, 0x0005_0293), // addi x5, x10, 0
+    (690, 0x0040_006F), // jal x0, 4
+    // the copies
+    (691, 0x0005_B703), // ld x14, 0(x11)
+    (698, 0x0040_006F), // jal x0, 4
+    // the next turn, and the join
+    (699, 0x01D2_800B), // xp.put 29, x5
+    (707, 0x0000_300B), // xp.join
+    // the way back
+    (708, 0x0000_400B), // xp.back
+    // where the check fails
+    (709, 0x0100_128B), // xp.get x5, 16
+    (716, 0x0000_400B), // xp.back
 ];
 
 // A loop of two words, of which a stub has 7 + 30 + 17 + 14 + 2 + 9 + 9 words.
@@ -114,8 +79,8 @@ static COUNT: [u32; 2] = [
     0xFEB5_1EE3, // bne x10, x11, -4
 ];
 
-// A loop that stores 32 numbers of 8 bytes in each turn. Of the 22,184 words of a stub 528 * 39 are those of the pairs, and
-// 32 * 46 those of the ranges.
+// A loop that stores 32 numbers of 8 bytes in each turn. Of the 22,184 words of a stub 528 * 39 are those of the pairs,
+// and 32 * 46 those of the ranges.
 static STORES: [u32; 34] = [
     0x0055_3023,
     0x0055_3423,
@@ -162,12 +127,18 @@ fn bytes_of(alloc: Global, words: &[u32]) -> Result<Vec<u8>, AllocError> {
     Ok(bytes)
 }
 
-// An executable in which a loop stands so many times, and then the exit.
-fn program(alloc: Global, body: &[u32], times: usize) -> Result<Vec<u8>, AllocError> {
-    let mut code = Vec::new(alloc);
+// Puts words behind those that are there, so many times.
+fn push_times(code: &mut Vec<u32>, words: &[u32], times: usize) -> Result<(), AllocError> {
     for _ in 0..times {
-        code.extend_from_slice(body)?;
+        code.extend_from_slice(words)?;
     }
+    Ok(())
+}
+
+// An executable of these words, and then the exit.
+fn program(alloc: Global, words: &[u32]) -> Result<Vec<u8>, AllocError> {
+    let mut code = Vec::new(alloc);
+    code.extend_from_slice(words)?;
     code.push(0x05D0_0893)?; // addi x17, x0, 93
     code.push(0x0000_0073)?; // ecall
     let tail = bytes_of(alloc, code.as_slice())?;
@@ -233,11 +204,10 @@ fn look_at<R: Abort>(rt: &R, division: &Division, entries: &[(u64, u64)], words:
     }
 }
 
-fn look_at_words<R: Abort>(rt: &R, division: &Division, words: &[At]) {
-    for row in words {
-        let place = row.place;
-        let found = division.code.as_slice().get(place).copied();
-        assert!(rt; found == Some(row.word), "word {place}");
+fn look_at_words<R: Abort>(rt: &R, division: &Division, words: &[(usize, u32)]) {
+    for (place, word) in words {
+        let found = division.code.as_slice().get(*place).copied();
+        assert!(rt; found == Some(*word), "word {place}");
     }
 }
 
@@ -259,20 +229,40 @@ fn sums_of_two_arrays_have_two_stubs(rt: HostRuntime) -> Result<(), Fail> {
 #[test]
 fn no_loop_no_word(rt: HostRuntime) -> Result<(), Fail> {
     let alloc = rt.alloc();
-    let file = program(alloc, &COUNT, 0)?;
+    let file = program(alloc, &[])?;
     let division = division_of(alloc, file.as_slice()).map_err(|_error| "no division")?;
     look_at(&rt, &division, &[], 0);
     Ok(())
 }
 
 #[test]
+fn at_most_262144_reached_words(rt: HostRuntime) -> Result<(), Fail> {
+    let alloc = rt.alloc();
+    let words = vec![in alloc; 0x0000_0013; 262_144]?;
+    let file = program(alloc, words.as_slice())?;
+    let refused = matches!(
+        division_of(alloc, file.as_slice()),
+        Err(DivideErr::TooManyWords { count: 262_145 })
+    );
+    assert!(&rt; refused);
+    Ok(())
+}
+
+// An executable with so many loops of two words.
+fn counts(alloc: Global, times: usize) -> Result<Vec<u8>, AllocError> {
+    let mut code = Vec::new(alloc);
+    push_times(&mut code, &COUNT, times)?;
+    program(alloc, code.as_slice())
+}
+
+#[test]
 fn at_most_1024_loops(rt: HostRuntime) -> Result<(), Fail> {
     let alloc = rt.alloc();
-    let most = program(alloc, &COUNT, 1024)?;
+    let most = counts(alloc, 1024)?;
     let division = division_of(alloc, most.as_slice()).map_err(|_error| "no division")?;
     assert_eq!(&rt; division.entries.len(), 1024);
     assert_eq!(&rt; division.code.len(), 1024 * 88);
-    let more = program(alloc, &COUNT, 1025)?;
+    let more = counts(alloc, 1025)?;
     let refused = matches!(
         division_of(alloc, more.as_slice()),
         Err(DivideErr::TooManyLoops { count: 1025 })
@@ -281,16 +271,41 @@ fn at_most_1024_loops(rt: HostRuntime) -> Result<(), Fail> {
     Ok(())
 }
 
+// Puts a loop behind the words that are there: it counts x10, does nothing so many times, and has this branch as its
+// last word. Its stub has 88 words, and one for each that does nothing.
+fn push_slow(code: &mut Vec<u32>, times: usize, branch: u32) -> Result<(), AllocError> {
+    code.push(0x0015_0513)?; // addi x10, x10, 1
+    push_times(code, &[0x0000_0013], times)?;
+    code.push(branch)?;
+    Ok(())
+}
+
+// An executable with 189 loops that store, and 7 that count and do nothing 103 times, as does one more, or 104 times:
+// with 103 their stubs have 189 * 22,184 + 8 * (88 + 103) words.
+fn long(alloc: Global, one_more: bool) -> Result<Vec<u8>, AllocError> {
+    let mut code = Vec::new(alloc);
+    push_times(&mut code, &STORES, 189)?;
+    for _ in 0..7 {
+        push_slow(&mut code, 103, 0xE6B5_10E3)?; // bne x10, x11, -416
+    }
+    if one_more {
+        push_slow(&mut code, 104, 0xE4B5_1EE3)?; // bne x10, x11, -420
+    } else {
+        push_slow(&mut code, 103, 0xE6B5_10E3)?; // bne x10, x11, -416
+    }
+    program(alloc, code.as_slice())
+}
+
 #[test]
 fn at_most_4194304_words(rt: HostRuntime) -> Result<(), Fail> {
     let alloc = rt.alloc();
-    let most = program(alloc, &STORES, 189)?;
+    let most = long(alloc, false)?;
     let division = division_of(alloc, most.as_slice()).map_err(|_error| "no division")?;
-    assert_eq!(&rt; division.code.len(), 189 * 22_184);
-    let more = program(alloc, &STORES, 190)?;
+    assert_eq!(&rt; division.code.len(), 4_194_304);
+    let more = long(alloc, true)?;
     let refused = matches!(
         division_of(alloc, more.as_slice()),
-        Err(DivideErr::CodeTooLong { words: 4_214_960 })
+        Err(DivideErr::CodeTooLong { words: 4_194_305 })
     );
     assert!(&rt; refused);
     Ok(())

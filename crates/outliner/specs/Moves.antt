@@ -22,10 +22,13 @@ roles_in classes loc = role_by false (slice_index_or classes loc None)
 unfoldable pub moved : List (Option Class) → List Moving
 moved classes = movings (roles_in classes)
 
--- the words from the fork, at place p, to the first turn, and those behind a turn, from place next on
+-- the words from the fork, at place p, to the first turn, which begins with the copy at place `header`. Behind a turn a
+-- hart goes on at place next
 abbrev pub front_code : List Moving → ℕ → ℕ → ℕ → List XInstr
 front_code ms p header next = (Par ∷ fork_code (suc p) (join_place next)) ++ begin_code ms (begin_place p) header
 
+-- the words behind a turn, from place next on: those for the next turn, the join, and the way out, on which cells go
+-- into memory
 abbrev pub behind_code : List Cell → ℕ → ℕ → List XInstr
 behind_code cells header next = next_code next header ++ (Join ∷ leave_code cells)
 

@@ -14,7 +14,8 @@ abbrev pub places_from : Level → LoopCode → ℕ → List ℕ → List ℕ
 places_from l B p [] = p ∷ []
 places_from l B p (u ∷ us) = p ∷ places_from l B (p + copy_size l B u) us
 
--- a loop of which copies can be made: its words are reached words in address order, at most 256
+-- what copies of a loop ask: the reached words, the words that use a cell and the loop's own words each stand in
+-- address order, and the loop has at most 256. A word of it that is not reached has no copy
 pub record IsCopied (G : Graph) (C : Cells) (l : Level) : Type 0 where
   pub words : IsInOrder G
   pub cells : AreNumbered C
@@ -25,7 +26,7 @@ pub record IsCopied (G : Graph) (C : Cells) (l : Level) : Type 0 where
 abbrev pub loop_code : Graph → Cells → LoopCode
 loop_code G C = code_of G (cell_map C)
 
--- these are the places of a loop's copies, the first at place p
+-- these are the places of a loop's copies and the one behind them, the first at place p, which is below 2 ^ 30
 pub record ArePlaces (G : Graph) (C : Cells) (l : Level) (p : ℕ) (places : List ℕ) : Type 0 where
   pub are : places ≡ places_from l (loop_code G C) p l.body
   pub small : p < 2 ^ 30

@@ -12,13 +12,18 @@ use Rattle.rv64_decode.specs.declared.xinstr.XInstr.TheVariants.{Base, Put, Get}
 use Rattle.loop_data.specs.declared.shape.Level.{Level}
 use Rattle.turn_copies.specs.Copies.{Kind, Leaving, OfCell, Plain, staying, falls_through, jump_to, number_into, word_size}
 
--- where an instruction of a loop leads that branches or jumps there
+-- the address to which the copy of the instruction at address u has to lead: for the branch at which the loop is left
+-- that of its two words which is in the loop, for other branches and for jumps their target. Copies of the rest lead
+-- nowhere, and the next word is not looked at
 abbrev pub target_of : Level → ℕ → Kind → Instr → ℕ
 target_of l u Leaving i = staying l u i
 target_of l u kind (Branch op rs1 rs2 imm) = plus_offset u imm
 target_of l u kind (Jal rd imm) = plus_offset u imm
 target_of l u kind i = next_pc u
 
+-- the words that stand for the instruction at address u, from place `at` on: for the branch at which the loop is left a
+-- jump to the place `to`, for an access of a cell one of its slot, for auipc its number, for other branches and jumps
+-- the same to that place, and else the same word
 abbrev pub word_at : ℕ → ℕ → ℕ → Kind → Instr → List XInstr
 word_at u at to Leaving i = jump_to to at ∷ []
 word_at u at to (OfCell k) (Load Lw rd rs1 imm) = Get rd k ∷ Base (AluImm Addiw rd rd (pos 0)) ∷ []

@@ -102,7 +102,8 @@ fn emit_divided(
     requires copied { IsCopied graph.now cells.now level.now }
     requires offsets { All (λ (c : Cell). HasOffset c.base c.offset) cells.now.list.items }
     requires small { p + 2 ^ 12 < 2 ^ 30 }
-    ensures { IfOk result (λ r. AreDivided level.now (loop_code graph.now cells.now) (moved classes.now) p r.0.items r.1) }
+    ensures { IfOk result (λ r. AreDivided level.now (loop_code graph.now cells.now) (moved classes.now) p r.0.items
+        r.1) }
 {
     let first = p + 17 + begin_size(classes);
     copies_stand_in_order();

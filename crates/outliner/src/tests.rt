@@ -1,10 +1,13 @@
-// Words by hand from the fields of their forms, at the places that they have in the added code of a loop over three
+// Words by hand from the fields of their forms, at the places that they have in the added code of a loop that fills two
 // arrays with 7 words in its body.
 
-ghost use Rattle.std.specs.Prelude.{◌≡◌};
+ghost use Rattle.std.specs.Prelude.{◌≡◌, IfOk, length};
+ghost use Rattle.std.specs.List.Sorted.{IsStrictlyIncreasing};
+ghost use Rattle.rv64_decode.specs.Form.{IsSigned, IsMultiple, InForm};
 
-use crate::copies::push_copy;
+use crate::copies::{push_copy, target_of};
 use crate::ends::{push_leave, push_refuse, push_save};
+use crate::places::arrival;
 use crate::turns::{push_begin, push_fork, push_join, push_next};
 use loop_data::{Addresses, Cell, Class, Level};
 use rv64_decode::{BranchOp, ImmOp, Instr, LoadOp, Reg, StoreOp, UpperOp};
@@ -264,7 +267,6 @@ fn push_jumps(code: &mut Vec<u32>, level: &Level) -> Result<(), AllocError> {
         imm: 1,
     };
     push_copy(code, level, 0x0_FFFC, 311, 314, 314, false, None, &last)?;
-    push_copy(code, level, 0x0_FFFC, 313, 312, 315, true, None, &exit)?;
     Ok(())
 }
 
@@ -274,15 +276,87 @@ fn copies_lead_to_copies(rt: HostRuntime) -> Result<(), Fail> {
     let level = level(alloc, 0x1_0000, 0x1_001C);
     let mut code = Vec::new(alloc);
     push_jumps(&mut code, &level)?;
-    let words: [u32; 7] = [
+    let words: [u32; 5] = [
         0x0073_0463,
         0x0140_006F,
         0xFF1F_F06F,
         0x0015_0513,
         0x0080_006F,
-        0xFFDF_F06F,
-        0x0040_006F,
     ];
+    assert_eq!(rt; code.as_slice(), words.as_slice());
+    Ok(())
+}
+
+// A loop of five words that begins at its third: it is left at the word before that, and its last word is a jump to its
+// first.
+fn turned(alloc: Global) -> Result<Level, AllocError>
+    ensures { IfOk result (λ l. IsStrictlyIncreasing l.body × (length l.body ≡ 5)) }
+{
+    let body: [u64; 5] = [0x0_FFF8, 0x0_FFFC, 0x1_0000, 0x1_0004, 0x1_0008];
+    Ok(Level {
+        header: 0x1_0000,
+        body: Addresses::new(Vec::from_slice(alloc, &body)?),
+        back: 0x0_FFFC,
+        exit: 0x0_FFFC,
+        depth: 0,
+    })
+}
+
+// A jump by so many bytes.
+fn jump(imm: i32) -> Instr {
+    Instr::Jal {
+        rd: Reg::new(0),
+        imm,
+    }
+}
+
+// A branch by so many bytes.
+fn branch(imm: i32) -> Instr
+    requires { IsSigned 13 imm × IsMultiple 1 imm }
+    ensures form { InForm result }
+{
+    Instr::Branch {
+        op: BranchOp::Bne,
+        rs1: Reg::new(10),
+        rs2: Reg::new(11),
+        imm,
+    }
+}
+
+// The places of the copies of its words, of which that of the second has two words, and the place behind them.
+static TURNED: [u32; 6] = [312, 313, 315, 316, 317, 318];
+
+#[test]
+fn copies_go_on_in_the_loop(rt: HostRuntime) -> Result<(), Fail> {
+    let level = turned(rt.alloc())?;
+    let rows: [(u64, bool, Instr, u64, u32); 6] = [
+        (0x0_FFFC, true, branch(-28), 0x1_0000, 318),
+        (0x0_FFFC, true, branch(8), 0x1_0004, 316),
+        (0x1_0000, false, branch(8), 0x1_0008, 317),
+        (0x1_0004, false, branch(-4), 0x1_0000, 318),
+        (0x1_0008, false, jump(-16), 0x0_FFF8, 312),
+        (0x1_0008, false, jump(-8), 0x1_0000, 318),
+    ];
+    for (at, leaving, i, address, place) in rows {
+        let target = target_of(&level, at, leaving, &i);
+        assert_eq!(rt; target, address);
+        assert_eq!(rt; arrival(&level, &TURNED, target), place);
+    }
+    Ok(())
+}
+
+// The exit branch of that loop, from which a turn falls through to the header: both jumps lead behind the turn.
+#[test]
+fn exit_before_the_header_ends_a_turn(rt: HostRuntime) -> Result<(), Fail> {
+    let level = turned(rt.alloc())?;
+    let exit = branch(-28);
+    let to = arrival(&level, &TURNED, target_of(&level, 0x0_FFFC, true, &exit));
+    if to != TURNED[5] {
+        return Err(Fail::from("the place behind the turn"));
+    }
+    let mut code = Vec::new(rt.alloc());
+    push_copy(&mut code, &level, 0x0_FFFC, 313, to, 318, true, None, &exit)?;
+    let words: [u32; 2] = [0x0140_006F, 0x0100_006F];
     assert_eq!(rt; code.as_slice(), words.as_slice());
     Ok(())
 }
