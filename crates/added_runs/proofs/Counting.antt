@@ -12,7 +12,8 @@ use Rattle.hart_core.specs.Machine.{Hart, State, Stub, alone_in, counted, capped
 use Rattle.hart_core.specs.Entering.{changed_count}
 use Rattle.hart_core.specs.Rows.{back_in, alone_after, forks, gathered, resting, divided_turns, one_division}
 use Rattle.hart_core.specs.Events.{added_event, after_event}
-use Rattle.added_runs.specs.Laws.{events_alone, HasLeft, IsFirstBack, with_fork, turns_divided, with_divisions, CountLaw}
+use Rattle.hart_core.specs.Alone.{events_alone}
+use Rattle.added_runs.specs.Laws.{HasLeft, IsFirstBack, with_fork, turns_divided, with_divisions, CountLaw}
 use Rattle.added_runs.proofs.Following.{alone_at, gone, Follows, IsOther, instr_of, executed, one_more, at_back}
 use Rattle.added_runs.proofs.Leaving.{next, runs, GoesOn, next_run, no_run, next_goes, first_goes, is_other, none_goes, begins}
 

@@ -6,7 +6,8 @@ use Rattle.rv64_decode.specs.declared.xinstr.XInstr.TheVariants.{Base, Put, Get,
 use Rattle.divided_loops.specs.Alone.{act_alone, run_alone, goes_on, MeetsNoFault}
 use Rattle.hart_core.specs.Machine.{State}
 use Rattle.hart_core.specs.Events.{after_event}
-use Rattle.added_runs.specs.Laws.{events_alone, HasLeft, IsQuiet, IsInStub, StubLaw}
+use Rattle.hart_core.specs.Alone.{events_alone}
+use Rattle.added_runs.specs.Laws.{HasLeft, IsQuiet, IsInStub, StubLaw}
 use Rattle.added_runs.proofs.Following.{LeavesAlone, Follows, IsOther, instr_of, one_more, at_back}
 
 -- after some events the machine t has left, and it is quiet before

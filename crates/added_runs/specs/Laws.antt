@@ -8,12 +8,7 @@ use Rattle.hart_core.specs.declared.counts.LoopCount.{LoopCount}
 use Rattle.hart_core.specs.Machine.{Hart, State, Stub, Passing, capped}
 use Rattle.hart_core.specs.Entering.{header_of, changed_count}
 use Rattle.hart_core.specs.Rows.{divided_turns, one_division}
-use Rattle.hart_core.specs.Events.{after_event}
-
--- n events of hart 0, and of no other
-abbrev pub events_alone : ℕ → State → State
-events_alone zero s = s
-events_alone (suc n) s = events_alone n (after_event s 0)
+use Rattle.hart_core.specs.Alone.{events_alone}
 
 -- the machine has one hart, which is in added code with pc, registers, slots and memory of this one
 pub record IsInStub (s : State) (r : OneHart) : Type 0 where

@@ -4,3 +4,5 @@ mod Sums
 mod Waking
 mod Happening
 mod Parts
+mod AloneSteps
+mod AloneRuns

@@ -32,7 +32,7 @@ idle s k e = stays s k (is_false (is_effective s.core k) e)
     is_false true n = absurd (n refl)
     is_false false n = refl
 
-ended_before : (o : Option End) (b : Bool) → IsSome o → goes_before o b ≡ false
+pub ended_before : (o : Option End) (b : Bool) → IsSome o → goes_before o b ≡ false
 ended_before None b e = absurd (cc)
 ended_before (Some end) b e = refl
 

@@ -6,5 +6,7 @@ pub mod Rows
 pub mod Events
 pub mod Counting
 pub mod Acting
+pub mod Alone
+pub mod Runs
 pub mod Laws
 pub mod Sample

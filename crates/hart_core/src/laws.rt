@@ -1,4 +1,4 @@
-ghost use Rattle.hart_core.specs.Laws.{IdleLaw, EndedLaw, AppendLaw};
+ghost use Rattle.hart_core.specs.Laws.{IdleLaw, EndedLaw, AppendLaw, GrowthLaw};
 ghost use Rattle.hart_core.specs.Sample.{SampleRun};
 
 /// An event that is not effective changes nothing.
@@ -14,6 +14,11 @@ pub fn ended_law()
 /// The events of two orders, one behind the other.
 pub fn append_law()
     ensures { AppendLaw }
+{}
+
+/// Output that events of hart 0 have written stays.
+pub fn growth_law()
+    ensures { GrowthLaw }
 {}
 
 /// Two harts in a small image, from the start through a fork and a join back to the header.

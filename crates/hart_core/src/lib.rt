@@ -5,6 +5,7 @@
 mod counts;
 mod entries;
 mod events;
+mod first;
 mod harts;
 mod laws;
 mod rows;
@@ -13,4 +14,4 @@ mod seat;
 pub use counts::{Counts, LoopCount, Place};
 pub use entries::Found;
 pub use harts::{Event, Harts};
-pub use laws::{a_sample_runs, append_law, ended_law, idle_law};
+pub use laws::{a_sample_runs, append_law, ended_law, growth_law, idle_law};

@@ -14,7 +14,8 @@ use Rattle.hart_core.specs.Entering.{header_of, entry_at}
 use Rattle.image_writer.specs.declared.image.Entry.{Entry}
 use Rattle.loop_division.specs.Division.{IsDivision}
 use Rattle.stub_laws.specs.Harts.{AreSlots}
-use Rattle.added_runs.specs.Laws.{events_alone, IsInStub, IsQuiet, HasLeft, StubLaw}
+use Rattle.hart_core.specs.Alone.{events_alone}
+use Rattle.added_runs.specs.Laws.{IsInStub, IsQuiet, HasLeft, StubLaw}
 use Rattle.entered_loops.specs.Laws.{IsWhole, Leaves, LeadsOn, EntryLaw}
 use Rattle.one_hart.specs.Laws.{IsDivided}
 use Rattle.one_hart.proofs.Standing.{IsFree, HasLeftAt, Stands}

@@ -11,7 +11,8 @@ use Rattle.hart_core.specs.Machine.{Hart, State}
 use Rattle.hart_core.specs.Entering.{entry_at, entered}
 use Rattle.hart_core.specs.Start.{start_core, start_state, first_hart}
 use Rattle.hart_core.specs.Events.{after_event, event_of, unless_ended}
-use Rattle.added_runs.specs.Laws.{events_alone, IsQuiet, StubLaw}
+use Rattle.hart_core.specs.Alone.{events_alone}
+use Rattle.added_runs.specs.Laws.{IsQuiet, StubLaw}
 use Rattle.entered_loops.specs.Laws.{IsWhole, WholeLaw, EntryLaw}
 use Rattle.one_hart.specs.Laws.{IsDivided, AreBytes, EndsAs, IsInStep, EndingLaw, StepLaw}
 use Rattle.one_hart.proofs.Standing.{IsFree, HasLeftAt, Stands, IsBetween, own_step}

@@ -7,7 +7,7 @@ use Rattle.serial_run.specs.Serial.{State as SerialState, start_of, serial, ende
 use Rattle.image_writer.specs.declared.image.Image.{Image}
 use Rattle.hart_core.specs.Machine.{State}
 use Rattle.hart_core.specs.Start.{start_state}
-use Rattle.added_runs.specs.Laws.{events_alone}
+use Rattle.hart_core.specs.Alone.{events_alone}
 use Rattle.loop_division.specs.Division.{IsDivision}
 
 -- an image of an executable that can be loaded, of segments with bytes: its entries and its added words are those of the executable's division,
