@@ -44,9 +44,10 @@ use Rattle.turn_copies.specs.StubWords.{check_place, fork_place, EndsInside, End
 use Rattle.turn_copies.specs.Copies.{in_order}
 use Rattle.turn_copies.proofs.Visits.{sound_run}
 use Rattle.divided_loops.specs.Alone.{behind_it, MeetsNoFault}
+use Rattle.divided_loops.specs.Forks.{turns_told, LeavesFirst}
 use Rattle.divided_loops.specs.Added.{IsAdded, IsAskedOf, Enters, LeavesAs, HasAccessed, DoesTurns, AddedLaw}
 use Rattle.divided_loops.proofs.Memories.{memories_are}
-use Rattle.divided_loops.proofs.Lone.{Gets, joined, alone, over_par, over_join, no_fault}
+use Rattle.divided_loops.proofs.Lone.{Gets, joined, alone, over_par, over_join, leaves_first, no_fault}
 use Rattle.divided_loops.proofs.Numbers.{answer_few, first_is, end_is, check_before, fork_before}
 
 -- the laws of the parts
@@ -99,6 +100,10 @@ cell_within : (cells : List Cell) (k : ℕ) (c : Cell) → cell_at cells k ≡ S
 cell_within [] k c e = absurd (cc)
 cell_within (d ∷ ds) zero c e = omega arith
 cell_within (d ∷ ds) (suc k) c e = let h = cell_within ds k c e in omega (arith, h)
+
+-- the last turn's number tells how many turns there are
+turns_back : (last turns : ℕ) → 0 < turns → turns < 2 ^ 32 → last ≡ turns - 1 → (last + 1) % 2 ^ 64 ≡ turns
+turns_back last turns some few e = omega (arith, some, few, e)
 
 three_joined : (a b c d : List Ask) → ((a ++ b) ++ c) ++ d ≡ a ++ (b ++ (c ++ d))
 three_joined a b c d = append_assoc (a ++ b) c d ∙ append_assoc a b (c ++ d)
@@ -180,8 +185,10 @@ module _ (laws : Laws) (code : List ℕ) (l : Level) (B : LoopCode) (roles : ℕ
     abbrev left_again : Hart
     left_again = run code restored.0 refused
 
-    gets_again : Gets code h left_again
-    gets_again = joined code h asked left_again (alone code saved.0 h) (joined code asked refused left_again (alone code n asked) (alone code restored.0 refused))
+    gets_again : Gets code h left_again []
+    gets_again =
+        joined code h asked left_again [] [] (alone code saved.0 h)
+        (joined code asked refused left_again [] [] (alone code n asked) (alone code restored.0 refused))
 
     leaves_again : fetched code left_again.pc ≡ Some Back
     leaves_again = ap (fetched code) restored.1.at ∙ restored.1.leaves
@@ -198,7 +205,14 @@ module _ (laws : Laws) (code : List ℕ) (l : Level) (B : LoopCode) (roles : ℕ
     }
 
     does_nothing : DoesTurns code l B.cells s h None × MeetsNoFault code h
-    does_nothing = ((gets_again.steps, subst (LeavesAs code s h) (sym gets_again.is) as_it_came), no_fault code h left_again gets_again leaves_again)
+    does_nothing = (
+      (
+        gets_again.steps,
+        subst (LeavesAs code s h) (sym gets_again.is) as_it_came,
+        leaves_first code h left_again [] gets_again leaves_again,
+      ),
+      no_fault code h left_again [] gets_again leaves_again,
+    )
 
   -- ---- where it tells turns
 
@@ -311,11 +325,19 @@ module _ (laws : Laws) (code : List ℕ) (l : Level) (B : LoopCode) (roles : ℕ
     abbrev gone : Hart
     gone = run code left.0 behind_join
 
-    gets : Gets code h gone
+    behind_fork : Gets code forked gone []
+    behind_fork =
+        joined code forked at_join gone [] [] (alone code region.0 forked)
+        (over_join code at_join gone [] (ap (fetched code) region.1.at ∙ in_place.joins) (alone code left.0 behind_join))
+
+    gets : Gets code h gone (turns_told before.slots ∷ [])
     gets =
-        joined code h asked gone (alone code saved.0 h) (joined code asked before gone (alone code n asked)
-        (over_par code before gone (ap (fetched code) yes_.arrived.at ∙ in_place.forks) (joined code forked at_join gone (alone code region.0 forked)
-        (over_join code at_join gone (ap (fetched code) region.1.at ∙ in_place.joins) (alone code left.0 behind_join)))))
+        joined code h asked gone [] (turns_told before.slots ∷ []) (alone code saved.0 h)
+        (joined code asked before gone [] (turns_told before.slots ∷ []) (alone code n asked)
+        (over_par code before gone [] (ap (fetched code) yes_.arrived.at ∙ in_place.forks) behind_fork))
+
+    told : turns_told before.slots ≡ t.root
+    told = turns_back (slice_index before.slots 23) t.root some few yes_.turns
 
     leaves_gone : fetched code gone.pc ≡ Some Back
     leaves_gone = ap (fetched code) left.1.at ∙ left.1.leaves
@@ -350,8 +372,15 @@ module _ (laws : Laws) (code : List ℕ) (l : Level) (B : LoopCode) (roles : ℕ
 
     does_turns : DoesTurns code l B.cells s h (Some t) × MeetsNoFault code h
     does_turns = (
-      (gets.steps, b, arrival.1, subst (LeavesAs code (run_state s b) h) (sym gets.is) leaves_as, subst (HasAccessed B.cells s b h) (sym gets.is) accessed),
-      no_fault code h gone gets leaves_gone,
+      (
+        gets.steps,
+        b,
+        arrival.1,
+        subst (LeavesAs code (run_state s b) h) (sym gets.is) leaves_as,
+        subst (HasAccessed B.cells s b h) (sym gets.is) accessed,
+        subst (λ m. LeavesFirst code gets.steps h (m ∷ [])) told (leaves_first code h gone (turns_told before.slots ∷ []) gets leaves_gone),
+      ),
+      no_fault code h gone (turns_told before.slots ∷ []) gets leaves_gone,
     )
 
   pub does : DoesTurns code l B.cells s h (answer c s.regs s.memory) × MeetsNoFault code h

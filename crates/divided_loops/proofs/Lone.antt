@@ -1,5 +1,5 @@
 -- Runs of the only hart.
-use Rattle.std.proofs.Common.{◌≡◌, ℕ, zero, suc, refl, sym, subst, ap, ◌∙◌, Option, Some, None, Bool, true, false, List, ◌⊎◌, inl, inr}
+use Rattle.std.proofs.Common.{◌≡◌, ◌≢◌, ℕ, zero, suc, ◌<◌, refl, sym, subst, ap, ◌∙◌, arith, Option, Some, None, Bool, true, false, List, [], ◌∷◌, ◌++◌, ◌⊎◌, inl, inr}
 use Rattle.rv64_decode.specs.Ask.{Ask}
 use Rattle.rv64_decode.specs.Hart.{Hart, fetched, moved, act, outcome_at, x_asks, run}
 use Rattle.rv64_decode.specs.declared.outcome.Next.TheVariants.{At, Call, Fault as Faulting}
@@ -8,55 +8,109 @@ use Rattle.rv64_decode.specs.declared.xinstr.XInstr.TheVariants.{Base, Put, Get,
 use Rattle.rv64_decode.specs.declared.xinstr.XNext.{XNext}
 use Rattle.rv64_decode.specs.declared.xinstr.XNext.TheVariants.{Own, Shared}
 use Rattle.divided_loops.specs.Alone.{behind_it, act_alone, run_alone, goes_on_by, goes_on, MeetsNoFault}
+use Rattle.divided_loops.specs.Forks.{turns_told, with_fork, turns_divided, LeavesFirst}
 
--- the run comes from one hart to the other
-pub record Gets (code : List ℕ) (h to : Hart) : Type 0 where
+-- the run comes from one hart to the other, leaves nowhere before, and divides these turns at its forks
+pub record Gets (code : List ℕ) (h to : Hart) (turns : List ℕ) : Type 0 where
   pub steps : ℕ
   pub is : run_alone code steps h ≡ to
+  pub before : (k : ℕ) → k < steps → fetched code (run_alone code k h).pc ≢ Some Back
+  pub divides : turns_divided code steps h ≡ turns
 
-here : (code : List ℕ) (h : Hart) → Gets code h h
-unfolding run_alone
-here code h = record { steps = 0; is = refl }
+here : (code : List ℕ) (h : Hart) → Gets code h h []
+unfolding run_alone turns_divided
+here code h = record { steps = 0; is = refl; before = λ k l. absurd (omega (arith, l)); divides = refl }
 
-pub first_step : (code : List ℕ) (h to : Hart) → Gets code (act_alone (fetched code h.pc) h) to → Gets code h to
-unfolding run_alone
-first_step code h to g = record { steps = suc g.steps; is = g.is }
+pub first_step : (code : List ℕ) (h to : Hart) (turns : List ℕ) → fetched code h.pc ≢ Some Back
+    → Gets code (act_alone (fetched code h.pc) h) to turns → Gets code h to (with_fork (fetched code h.pc) h turns)
+unfolding run_alone turns_divided
+first_step code h to turns other g = record {
+  steps = suc g.steps;
+  is = g.is;
+  before = no_back;
+  divides = ap (with_fork (fetched code h.pc) h) g.divides;
+}
+  where
+    no_back : (k : ℕ) → k < suc g.steps → fetched code (run_alone code k h).pc ≢ Some Back
+    no_back zero l = other
+    no_back (suc k) l = g.before k (omega (arith, l))
 
-joined_steps : (code : List ℕ) (n : ℕ) (h mid to : Hart) → run_alone code n h ≡ mid → Gets code mid to → Gets code h to
-unfolding run_alone
-joined_steps code zero h mid to e g = subst (λ x. Gets code x to) (sym e) g
-joined_steps code (suc n) h mid to e g = first_step code h to (joined_steps code n (act_alone (fetched code h.pc) h) mid to e g)
+fork_first : (o : Option XInstr) (h : Hart) (a b : List ℕ) → with_fork o h (a ++ b) ≡ with_fork o h a ++ b
+fork_first None h a b = refl
+fork_first (Some Par) h a b = refl
+fork_first (Some Join) h a b = refl
+fork_first (Some Back) h a b = refl
+fork_first (Some (Base i)) h a b = refl
+fork_first (Some (Put slot rs1)) h a b = refl
+fork_first (Some (Get rd slot)) h a b = refl
+fork_first (Some (Id rd)) h a b = refl
+fork_first (Some (Harts rd)) h a b = refl
 
-pub joined : (code : List ℕ) (h mid to : Hart) → Gets code h mid → Gets code mid to → Gets code h to
-joined code h mid to a b = joined_steps code a.steps h mid to a.is b
+joined_steps : (code : List ℕ) (n : ℕ) (h mid to : Hart) (later : List ℕ) → run_alone code n h ≡ mid
+    → ((k : ℕ) → k < n → fetched code (run_alone code k h).pc ≢ Some Back) → Gets code mid to later
+    → Gets code h to (turns_divided code n h ++ later)
+unfolding run_alone turns_divided
+joined_steps code zero h mid to later e before g = subst (λ x. Gets code x to later) (sym e) g
+joined_steps code (suc n) h mid to later e before g =
+    let next = act_alone (fetched code h.pc) h in
+    let rest = joined_steps code n next mid to later e (λ k l. before (suc k) (omega (arith, l))) g in
+    subst (Gets code h to) (fork_first (fetched code h.pc) h (turns_divided code n next) later)
+    (first_step code h to (turns_divided code n next ++ later) (before 0 (omega arith)) rest)
 
--- an instruction is executed so too, or nothing becomes of it elsewhere
-same_act : (i : Option XInstr) (h : Hart) → (act_alone i h ≡ act i h) ⊎ (act i h ≡ h)
-same_act None h = inl refl
+pub joined : (code : List ℕ) (h mid to : Hart) (a b : List ℕ) → Gets code h mid a → Gets code mid to b → Gets code h to (a ++ b)
+joined code h mid to a b f g =
+    subst (λ x. Gets code h to (x ++ b)) f.divides (joined_steps code f.steps h mid to b f.is f.before g)
+
+-- an instruction is executed so too, and is none of the three that concern other harts, or nothing becomes of it elsewhere
+record IsSameAct (i : Option XInstr) (h : Hart) : Type 0 where
+  same : act_alone i h ≡ act i h
+  other : i ≢ Some Back
+  no_fork : with_fork i h [] ≡ []
+
+same_act : (i : Option XInstr) (h : Hart) → IsSameAct i h ⊎ (act i h ≡ h)
+same_act None h = inr refl
 same_act (Some Par) h = inr refl
 same_act (Some Join) h = inr refl
-same_act (Some Back) h = inl refl
-same_act (Some (Base i)) h = inl refl
-same_act (Some (Put slot rs1)) h = inl refl
-same_act (Some (Get rd slot)) h = inl refl
-same_act (Some (Id rd)) h = inl refl
-same_act (Some (Harts rd)) h = inl refl
+same_act (Some Back) h = inr refl
+same_act (Some (Base i)) h = inl (record { same = refl; other = λ e. cc e; no_fork = refl })
+same_act (Some (Put slot rs1)) h = inl (record { same = refl; other = λ e. cc e; no_fork = refl })
+same_act (Some (Get rd slot)) h = inl (record { same = refl; other = λ e. cc e; no_fork = refl })
+same_act (Some (Id rd)) h = inl (record { same = refl; other = λ e. cc e; no_fork = refl })
+same_act (Some (Harts rd)) h = inl (record { same = refl; other = λ e. cc e; no_fork = refl })
 
--- a run among others is one of the only hart
-pub alone : (code : List ℕ) (n : ℕ) (h : Hart) → Gets code h (run code n h)
+-- a run among others is one of the only hart, which comes to no fork before its end
+pub alone : (code : List ℕ) (n : ℕ) (h : Hart) → Gets code h (run code n h) []
 unfolding run
 alone code zero h = here code h
 alone code (suc n) h = go (same_act (fetched code h.pc) h) (λ x. alone code n x)
   where
-    go : (act_alone (fetched code h.pc) h ≡ act (fetched code h.pc) h) ⊎ (act (fetched code h.pc) h ≡ h) → ((x : Hart) → Gets code x (run code n x)) → Gets code h (run code n (act (fetched code h.pc) h))
-    go (inl e) rest = first_step code h _ (subst (λ x. Gets code x (run code n (act (fetched code h.pc) h))) (sym e) (rest (act (fetched code h.pc) h)))
-    go (inr e) rest = subst (λ x. Gets code h (run code n x)) (sym e) (rest h)
+    go : IsSameAct (fetched code h.pc) h ⊎ (act (fetched code h.pc) h ≡ h) → ((x : Hart) → Gets code x (run code n x) [])
+        → Gets code h (run code n (act (fetched code h.pc) h)) []
+    go (inl e) rest =
+        let to = run code n (act (fetched code h.pc) h) in
+        let there = subst (λ x. Gets code x to []) (sym e.same) (rest (act (fetched code h.pc) h)) in
+        subst (Gets code h to) e.no_fork (first_step code h to [] e.other there)
+    go (inr e) rest = subst (λ x. Gets code h (run code n x) []) (sym e) (rest h)
 
-pub over_par : (code : List ℕ) (h to : Hart) → fetched code h.pc ≡ Some Par → Gets code (behind_it h) to → Gets code h to
-over_par code h to e g = first_step code h to (subst (λ o. Gets code (act_alone o h) to) (sym e) g)
+pub over_par : (code : List ℕ) (h to : Hart) (turns : List ℕ) → fetched code h.pc ≡ Some Par → Gets code (behind_it h) to turns
+    → Gets code h to (turns_told h.slots ∷ turns)
+over_par code h to turns e g =
+    subst (λ o. Gets code h to (with_fork o h turns)) e
+    (first_step code h to turns (λ b. let f = sym e ∙ b in cc f) (subst (λ o. Gets code (act_alone o h) to turns) (sym e) g))
 
-pub over_join : (code : List ℕ) (h to : Hart) → fetched code h.pc ≡ Some Join → Gets code (behind_it h) to → Gets code h to
-over_join code h to e g = first_step code h to (subst (λ o. Gets code (act_alone o h) to) (sym e) g)
+pub over_join : (code : List ℕ) (h to : Hart) (turns : List ℕ) → fetched code h.pc ≡ Some Join → Gets code (behind_it h) to turns
+    → Gets code h to turns
+over_join code h to turns e g =
+    subst (λ o. Gets code h to (with_fork o h turns)) e
+    (first_step code h to turns (λ b. let f = sym e ∙ b in cc f) (subst (λ o. Gets code (act_alone o h) to turns) (sym e) g))
+
+-- where it comes to a word at which it leaves, that is the first one
+pub leaves_first : (code : List ℕ) (h to : Hart) (turns : List ℕ) (g : Gets code h to turns) → fetched code to.pc ≡ Some Back
+    → LeavesFirst code g.steps h turns
+leaves_first code h to turns g e = record {
+  first = record { leaves = subst (λ (x : Hart). fetched code x.pc ≡ Some Back) (sym g.is) e; first = g.before };
+  divides = g.divides;
+}
 
 -- ---- a hart that would not go on stays where it is
 
@@ -101,5 +155,5 @@ goes_before code (suc n) zero h e = go (goes_on (fetched code h.pc) h) refl
     go false q = goes_at_back code h (subst (λ (x : Hart). fetched code x.pc ≡ Some Back) (stuck_run code (suc n) h q) e)
 goes_before code (suc n) (suc m) h e = goes_before code n m (act_alone (fetched code h.pc) h) e
 
-pub no_fault : (code : List ℕ) (h to : Hart) → Gets code h to → fetched code to.pc ≡ Some Back → MeetsNoFault code h
-no_fault code h to g e m = goes_before code g.steps m h (subst (λ (x : Hart). fetched code x.pc ≡ Some Back) (sym g.is) e)
+pub no_fault : (code : List ℕ) (h to : Hart) (turns : List ℕ) → Gets code h to turns → fetched code to.pc ≡ Some Back → MeetsNoFault code h
+no_fault code h to turns g e m = goes_before code g.steps m h (subst (λ (x : Hart). fetched code x.pc ≡ Some Back) (sym g.is) e)

@@ -24,6 +24,7 @@ use Rattle.turn_copies.specs.Passages.{in_slot, accesses_between}
 use Rattle.turn_copies.specs.Regions.{CanMove}
 use Rattle.turn_copies.specs.StubWords.{HasStub}
 use Rattle.divided_loops.specs.Alone.{run_alone, MeetsNoFault}
+use Rattle.divided_loops.specs.Forks.{forks_of, LeavesFirst}
 
 -- the added code of a loop stands among these words from place p on, with a check whose words tell what it tells. They
 -- are at most 2 ^ 32 words of 32 bits
@@ -71,12 +72,12 @@ pub record HasAccessed (C : CellMap) (s : State) (b : ℕ) (h now : Hart) : Type
       ≡ h.log ++ (cell_loads s.regs C.cells ++ (accesses_between C s 0 b ++ stores_back s.regs values 0 C.cells))
 
 -- where the check tells turns, the hart leaves with the registers and the memory of the arrival so many turns on, and
--- otherwise as it came
+-- otherwise as it came. It has met one fork, which divides these turns, and otherwise none
 abbrev pub DoesTurns : List ℕ → Level → CellMap → State → Hart → Option Turns → Type 0
 DoesTurns code l C s h (Some t) =
     (n b : ℕ) × IsArrival l s t.root b × LeavesAs code (run s b) h (run_alone code n h)
-    × HasAccessed C s b h (run_alone code n h)
-DoesTurns code l C s h None = (n : ℕ) × LeavesAs code s h (run_alone code n h)
+    × HasAccessed C s b h (run_alone code n h) × LeavesFirst code n h (forks_of (Some t))
+DoesTurns code l C s h None = (n : ℕ) × LeavesAs code s h (run_alone code n h) × LeavesFirst code n h (forks_of None)
 
 abbrev pub AddedLaw : Type 0
 AddedLaw = (code : List ℕ) (l : Level) (B : LoopCode) (roles : ℕ → Role) (c : Check) (p : ℕ) (words : List ℕ)

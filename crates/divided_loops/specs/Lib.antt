@@ -1,3 +1,4 @@
 pub mod Alone
+pub mod Forks
 pub mod Added
 pub mod Judged

@@ -1,7 +1,7 @@
 //! Laws about the whole added code of a sample loop: an instance in which all that is asked of such code is met.
 #![tactic(auto)]
 
-ghost use Rattle.std.specs.Prelude.{◌≡◌};
+ghost use Rattle.std.specs.Prelude.{◌≡◌, [], ◌∷◌};
 ghost use Rattle.loop_samples.specs.Checked.{told};
 ghost use Rattle.loop_samples.specs.NestLoop.{outer, two_cells, nest_roles};
 ghost use Rattle.alias_checks.specs.Answers.{answer};
@@ -10,6 +10,7 @@ ghost use Rattle.turn_copies.specs.StubWords.{HasStub};
 ghost use Rattle.copy_samples.specs.NestCopies.{nest_code};
 ghost use Rattle.divided_loops.specs.Alone.{MeetsNoFault};
 ghost use Rattle.divided_loops.specs.Added.{IsAdded, IsAskedOf, Enters, DoesTurns};
+ghost use Rattle.divided_loops.specs.Forks.{LeavesFirst};
 ghost use Rattle.stub_samples.specs.NestStub.{rounds, round_check, check_words, stub_words, entering};
 
 use copy_samples::{nest_is_divided, nest_may_be_copied};
@@ -24,7 +25,8 @@ pub fn nest_is_asked()
 {}
 
 /// Its added code as it is counted by hand, with a hart that enters it alone, is all that is asked of such code, so
-/// that it does these 19 turns.
+/// that it does these 19 turns. It has executed 525 words of it, with one fork for the 19, where it comes to the word at
+/// which it leaves.
 pub fn nest_is_added()
     ensures stub { HasStub stub_words outer nest_code nest_roles 0 check_words }
     ensures added { IsAdded stub_words outer nest_code nest_roles round_check 0 check_words }
@@ -32,6 +34,7 @@ pub fn nest_is_added()
     ensures enters { Enters rounds 0 entering }
     ensures does { DoesTurns stub_words outer two_cells rounds entering (told 19 3) }
     ensures faultless { MeetsNoFault stub_words entering }
+    ensures forks { LeavesFirst stub_words 525 entering (19 ∷ []) }
 {
     nest_may_be_copied();
     nest_is_divided();

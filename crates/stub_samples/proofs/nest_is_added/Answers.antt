@@ -1,4 +1,5 @@
 use Rattle.stub_samples.proofs.NestStub.{has_stub, is_added, is_asked, enters, does}
+use Rattle.stub_samples.proofs.NestForks.{leaves_first}
 use Rattle.stub_samples.proofs.nest_is_added.Goals as goal
 
 pub returns-clause-stub : goal.returns-clause-stub
@@ -22,3 +23,10 @@ pub returns-clause-faultless : goal.returns-clause-faultless
 returns-clause-faultless c =
     (does c.added_code_does_what_its_loop_does.ensures (is_added c.stubs_stand.ensures.stands c.nest_may_be_copied.ensures.body c.nest_may_be_copied.ensures.ordered)
     (is_asked c.nest_is_divided.ensures.moves c.nest_is_asked.ensures.told) c.nest_is_asked.ensures.told).1
+
+pub returns-clause-forks : goal.returns-clause-forks
+returns-clause-forks c =
+    leaves_first
+    (does c.added_code_does_what_its_loop_does.ensures
+    (is_added c.stubs_stand.ensures.stands c.nest_may_be_copied.ensures.body c.nest_may_be_copied.ensures.ordered)
+    (is_asked c.nest_is_divided.ensures.moves c.nest_is_asked.ensures.told) c.nest_is_asked.ensures.told).0
