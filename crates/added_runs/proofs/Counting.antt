@@ -1,5 +1,5 @@
 -- What the only hart counts up to the event by which it leaves added code, and with that.
-use Rattle.std.proofs.Common.{◌≡◌, ◌≢◌, ◌+◌, ℕ, zero, suc, [], ◌∷◌, refl, sym, ap, ◌∙◌, subst, Option, Some, None, List, arith, slice_set, length, ◌⊎◌, inl, inr, true}
+use Rattle.std.proofs.Common.{◌≡◌, ◌≢◌, ◌+◌, ◌≤◌, ℕ, zero, suc, [], ◌∷◌, refl, sym, ap, ◌∙◌, subst, Option, Some, None, List, arith, slice_set, length, ◌⊎◌, inl, inr, true}
 use Rattle.rv64_decode.specs.Ask.{Ask}
 use Rattle.rv64_decode.specs.Row.{next_pc}
 use Rattle.rv64_decode.specs.Hart.{Hart as OneHart}
@@ -7,15 +7,16 @@ use Rattle.rv64_decode.specs.declared.xinstr.XInstr.{XInstr}
 use Rattle.rv64_decode.specs.declared.xinstr.XInstr.TheVariants.{Base, Put, Get, Par, Join, Back, Id, Harts}
 use Rattle.serial_run.specs.Serial.{after_instr}
 use Rattle.divided_loops.specs.Alone.{act_alone, run_alone, goes_on}
+use Rattle.divided_loops.specs.Forks.{IsFirstBack, with_fork, turns_divided}
 use Rattle.hart_core.specs.declared.counts.LoopCount.{LoopCount}
 use Rattle.hart_core.specs.Machine.{Hart, State, Stub, alone_in, counted, capped}
 use Rattle.hart_core.specs.Entering.{changed_count}
 use Rattle.hart_core.specs.Rows.{back_in, alone_after, forks, gathered, resting, divided_turns, one_division}
 use Rattle.hart_core.specs.Events.{added_event, after_event}
 use Rattle.hart_core.specs.Alone.{events_alone}
-use Rattle.added_runs.specs.Laws.{HasLeft, IsFirstBack, with_fork, turns_divided, with_divisions, CountLaw}
+use Rattle.added_runs.specs.Laws.{HasLeft, IsQuiet, with_divisions, CountLaw}
 use Rattle.added_runs.proofs.Following.{alone_at, gone, Follows, IsOther, instr_of, executed, one_more, at_back}
-use Rattle.added_runs.proofs.Leaving.{next, runs, GoesOn, next_run, no_run, next_goes, first_goes, is_other, none_goes, begins}
+use Rattle.added_runs.proofs.Leaving.{quiet, next, runs, GoesOn, next_run, no_run, next_goes, first_goes, is_other, none_goes, begins}
 
 -- the events that the first hart has counted
 abbrev events_of : List Hart → ℕ
@@ -105,6 +106,7 @@ record Counts (s : State) (entry : ℕ) (t : State) (n : ℕ) (r : OneHart) : Ty
   left : HasLeft s (events_alone (suc n) t) entry (runs s n r)
   events : events_of (events_alone (suc n) t).core.harts ≡ capped (events_of t.core.harts + suc n)
   loops : (events_alone (suc n) t).core.loops ≡ with_divisions entry t.core.loops (turns_divided s.core.image.code n r)
+  before : (k : ℕ) → k ≤ n → IsQuiet s (events_alone k t)
 
 -- the event by which it leaves
 counts_last : (s : State) (entry : ℕ) (t : State) (r : OneHart) → Follows s entry t r → instr_of s r ≡ Some Back
@@ -116,7 +118,12 @@ counts_last s entry t r f is = record {
       loops_one s entry t r Back f is
       ∙ ap (λ o. loops_after o entry r t.core.loops) is
       ∙ ap (with_divisions entry t.core.loops) (sym (no_turns s.core.image.code r));
+  before = now;
 }
+  where
+    now : (k : ℕ) → k ≤ 0 → IsQuiet s (events_alone k t)
+    now zero b = quiet s t f.shared
+    now (suc k) b = absurd (omega (arith, b))
 
 -- one event more before
 counts_more : (s : State) (entry : ℕ) (t : State) (n : ℕ) (r : OneHart) (i : XInstr) → Follows s entry t r → instr_of s r ≡ Some i
@@ -129,7 +136,12 @@ counts_more s entry t n r i f is c = record {
       ∙ ap (λ x. with_divisions entry x (turns_divided s.core.image.code n (next s r))) (loops_one s entry t r i f is)
       ∙ divided_first (instr_of s r) entry r t.core.loops (turns_divided s.core.image.code n (next s r))
       ∙ ap (with_divisions entry t.core.loops) (sym (next_turns s n r));
+  before = now;
 }
+  where
+    now : (k : ℕ) → k ≤ suc n → IsQuiet s (events_alone k t)
+    now zero b = quiet s t f.shared
+    now (suc k) b = c.before k (omega (arith, b))
 
 -- the first word at which it leaves is that of the rest too
 first_now : (s : State) (n : ℕ) (r : OneHart) → IsFirstBack s.core.image.code (suc n) r → instr_of s r ≢ Some Back
@@ -169,4 +181,4 @@ count_law s r n i b goes =
     let c = counts n s i.hart.kept s r (begins s r i) b goes in
     let after = ap events_of c.left.only in
     let before = ap events_of i.only in
-    (c.left, sym after ∙ c.events ∙ ap (λ x. capped (x + suc n)) before, c.loops)
+    (c.left, sym after ∙ c.events ∙ ap (λ x. capped (x + suc n)) before, c.loops, c.before)

@@ -14,7 +14,7 @@ use Rattle.added_runs.proofs.Following.{LeavesAlone, Follows, IsOther, instr_of,
 abbrev Leaves : State → ℕ → State → OneHart → Type 0
 Leaves s entry t r = (m : ℕ) × HasLeft s (events_alone (suc m) t) entry r × ((k : ℕ) → k ≤ m → IsQuiet s (events_alone k t))
 
-quiet : (s t : State) → LeavesAlone s t → IsQuiet s t
+pub quiet : (s t : State) → LeavesAlone s t → IsQuiet s t
 quiet s t l = record { running = l.running; output = l.output; rest = l.rest }
 
 -- the next event leaves

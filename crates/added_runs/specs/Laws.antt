@@ -1,13 +1,13 @@
 -- What the machine with one hart does while the hart is in added code.
-use Rattle.std.specs.Prelude.{ℕ, zero, suc, ◌≡◌, ◌≢◌, ◌+◌, ◌≤◌, ◌<◌, List, [], ◌∷◌, slice_get, Option, Some, None}
+use Rattle.std.specs.Prelude.{ℕ, suc, ◌≡◌, ◌+◌, ◌≤◌, List, [], ◌∷◌, slice_get, Some, None}
 use Rattle.rv64_decode.specs.Hart.{Hart as OneHart, fetched}
-use Rattle.rv64_decode.specs.declared.xinstr.XInstr.{XInstr}
-use Rattle.rv64_decode.specs.declared.xinstr.XInstr.TheVariants.{Par, Back}
-use Rattle.divided_loops.specs.Alone.{act_alone, run_alone, MeetsNoFault}
+use Rattle.rv64_decode.specs.declared.xinstr.XInstr.TheVariants.{Back}
+use Rattle.divided_loops.specs.Alone.{run_alone, MeetsNoFault}
+use Rattle.divided_loops.specs.Forks.{IsFirstBack, turns_divided}
 use Rattle.hart_core.specs.declared.counts.LoopCount.{LoopCount}
 use Rattle.hart_core.specs.Machine.{Hart, State, Stub, Passing, capped}
 use Rattle.hart_core.specs.Entering.{header_of, changed_count}
-use Rattle.hart_core.specs.Rows.{divided_turns, one_division}
+use Rattle.hart_core.specs.Rows.{one_division}
 use Rattle.hart_core.specs.Alone.{events_alone}
 
 -- the machine has one hart, which is in added code with pc, registers, slots and memory of this one
@@ -53,22 +53,6 @@ StubLaw = (s : State) (r : OneHart) (n : ℕ) (i : IsInStub s r)
     → (m : ℕ) × HasLeft s (events_alone (suc m) s) i.hart.kept (run_alone s.core.image.code n r)
     × ((k : ℕ) → k ≤ m → IsQuiet s (events_alone k s))
 
--- the hart that executes added words alone comes to one at which it leaves by n instructions, and to none before
-pub record IsFirstBack (code : List ℕ) (n : ℕ) (r : OneHart) : Type 0 where
-  pub leaves : fetched code (run_alone code n r).pc ≡ Some Back
-  pub first : (k : ℕ) → k < n → fetched code (run_alone code k r).pc ≢ Some Back
-
--- the turns that a fork divides, before those of later ones
-abbrev pub with_fork : Option XInstr → OneHart → List ℕ → List ℕ
-with_fork (Some Par) r later = divided_turns r.slots ∷ later
-with_fork _ r later = later
-
--- the turns that each fork among n instructions divides
-unfoldable pub turns_divided : List ℕ → ℕ → OneHart → List ℕ
-turns_divided code zero r = []
-turns_divided code (suc n) r =
-    with_fork (fetched code r.pc) r (turns_divided code n (act_alone (fetched code r.pc) r))
-
 -- the counts of all entries once these turns of an entry have been divided, at a fork each
 abbrev pub with_divisions : ℕ → List LoopCount → List ℕ → List LoopCount
 with_divisions entry loops [] = loops
@@ -76,10 +60,12 @@ with_divisions entry loops (turns ∷ later) =
     with_divisions entry (changed_count loops entry (one_division turns)) later
 
 -- up to the event by which it leaves, and with that, the only hart counts one event for each instruction, and of the
--- counts of entries only that of its own changes, by the forks that it has met
+-- counts of entries only that of its own changes, by the forks that it has met. In none of the events before has the run
+-- ended
 abbrev pub CountLaw : Type 0
 CountLaw = (s : State) (r : OneHart) (n : ℕ) (i : IsInStub s r) → IsFirstBack s.core.image.code n r
     → MeetsNoFault s.core.image.code r
     → (left : HasLeft s (events_alone (suc n) s) i.hart.kept (run_alone s.core.image.code n r))
     × (left.hart.events ≡ capped (i.hart.events + suc n))
     × ((events_alone (suc n) s).core.loops ≡ with_divisions i.hart.kept s.core.loops (turns_divided s.core.image.code n r))
+    × ((k : ℕ) → k ≤ n → IsQuiet s (events_alone k s))

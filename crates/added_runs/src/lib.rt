@@ -12,7 +12,7 @@ pub fn the_only_hart_executes_added_code()
 
 /// Up to the first word at which it leaves, and with that, the only hart counts one event for each instruction. Of what is
 /// counted of the entries only that of its own changes: by one division for each fork that it has met, and by the turns
-/// that slot 23 told there.
+/// that slot 23 told there. The run has not ended before.
 pub fn the_only_hart_counts_its_events()
     ensures { CountLaw }
 {}

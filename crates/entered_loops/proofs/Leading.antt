@@ -1,7 +1,6 @@
 -- From the state at an entry through its stub.
-use Rattle.std.proofs.Common.{◌≡◌, ℕ, ◌+◌, ◌<◌, ◌≤◌, ◌^◌, ◌⊎◌, inl, inr, List, [], ◌∷◌, ◌++◌, length, get_or, Option, Some, None, refl, ap, sym, ◌∙◌, subst, arith}
+use Rattle.std.proofs.Common.{◌≡◌, ℕ, ◌≤◌, ◌^◌, inl, inr, List, ◌∷◌, ◌++◌, length, Option, Some, None, refl, ap, sym, ◌∙◌, subst, arith}
 use Rattle.std.specs.Prelude.{slice_get}
-use Rattle.std.specs.List.{All}
 use Rattle.std.proofs.lemmas.List.Elements.{All-get_or}
 use Rattle.std.proofs.lemmas.Option.{get_or_from_slice_get, slice_get_within}
 use Rattle.elf_image.specs.declared.image.Elf.{Elf}
@@ -9,26 +8,20 @@ use Rattle.elf_image.specs.Layout.{IsLoadable}
 use Rattle.rv64_decode.specs.Hart.{Hart, address}
 use Rattle.rv64_decode.specs.Registers.{register}
 use Rattle.rv64_decode.specs.declared.outcome.Next.TheVariants.{At}
-use Rattle.guest_memory.specs.Areas.{areas_of}
 use Rattle.loop_data.specs.declared.graph.Graph.{Graph}
 use Rattle.loop_data.specs.declared.plans.Plan.{Plan}
 use Rattle.loop_data.specs.declared.shape.Level.{Level}
 use Rattle.loop_data.specs.declared.shape.LoopShape.{LoopShape}
 use Rattle.loop_data.specs.Graphs.{IsGraph}
-use Rattle.loop_data.specs.LoopCode.{LoopCode, code_of}
 use Rattle.loop_data.specs.Loops.{AreLoops}
-use Rattle.loop_data.specs.LoopWords.{AreNest, AreNestAt}
+use Rattle.loop_data.specs.LoopWords.{AreNestAt}
 use Rattle.loop_data.specs.Lookups.{cell_map, roles_by}
 use Rattle.loop_data.specs.Runs.{State as LoopState, run}
-use Rattle.loop_data.specs.Turns.{AtLoop, IsArrival}
 use Rattle.loop_shapes.specs.Laws.{NestLaw}
 use Rattle.stack_slots.specs.CellLaws.{NumberedLaw, FewAccessesLaw}
 use Rattle.alias_checks.specs.declared.lists.Check.{Check}
 use Rattle.alias_checks.specs.declared.lists.Turns.{Turns}
 use Rattle.alias_checks.specs.Answers.{answer}
-use Rattle.stub_laws.specs.Sound.{IsSound}
-use Rattle.check_code.specs.Checkable.{IsCheckable, HasRoom}
-use Rattle.check_code.specs.CheckLaws.{TellsCheck}
 use Rattle.check_code.proofs.Answered.{tells_check}
 use Rattle.turn_copies.specs.StubWords.{IsStub, HasStub, StubLaw}
 use Rattle.serial_run.specs.Serial.{State, serial, ended}
@@ -36,17 +29,12 @@ use Rattle.loop_choice.specs.Independence.{IsAtLoop, roles_of}
 use Rattle.loop_choice.specs.Judging.{IsOneOfLoops, IsPlanOf}
 use Rattle.loop_samples.specs.SerialRun.{state_in, IsSerial}
 use Rattle.checkable_plans.specs.Judged.{JudgedRoomLaw}
-use Rattle.divided_loops.specs.Alone.{run_alone, MeetsNoFault}
-use Rattle.divided_loops.specs.Added.{Enters, LeavesAs, HasAccessed, DoesTurns}
-use Rattle.divided_loops.specs.Judged.{planned, IsAddedFor, JudgedLaw, AreIndependent}
-use Rattle.image_writer.specs.declared.image.Entry.{Entry}
-use Rattle.hart_core.specs.declared.entries.Found.{Found}
-use Rattle.hart_core.specs.Entering.{entry_at, header_of}
-use Rattle.loop_division.specs.LoopVerdicts.{AreVerdicts}
-use Rattle.loop_division.specs.Stubs.{Stub, IsStubAt, AreStubs, AreShort, AreWordsOf, AreStubWords, words_with_cells}
-use Rattle.loop_division.specs.Division.{IsDivision}
-use Rattle.entered_loops.specs.Laws.{IsWhole, Leaves, LeadsOn, EntryLaw}
-use Rattle.entered_loops.proofs.Entries.{IsStubOf, stub_of, header_is, all_short}
+use Rattle.divided_loops.specs.Alone.{MeetsNoFault}
+use Rattle.divided_loops.specs.Added.{Enters, DoesTurns}
+use Rattle.divided_loops.specs.Judged.{planned, IsAddedFor, JudgedLaw}
+use Rattle.loop_division.specs.Stubs.{AreShort, AreStubWords}
+use Rattle.entered_loops.specs.Laws.{IsWhole, Leaves, HasLoop, told, LeadsOn, EntryLaw}
+use Rattle.entered_loops.proofs.Entries.{stub_of, header_is, all_short}
 use Rattle.entered_loops.proofs.CheckLimits.{plan_limits}
 
 -- a run that goes on at a pc is the serial run
@@ -114,7 +102,8 @@ module _ (numbers : NumberedLaw) (few : FewAccessesLaw) (rooms : JudgedRoomLaw) 
       harts = l.harts;
     }
 
-    leads : (plan : Plan) (h : Hart) (o : Option Turns) → DoesTurns code root (cell_map plan.cells) (state_in s) h o → LeadsOn code s h
+    leads : (plan : Plan) (h : Hart) (o : Option Turns) → DoesTurns code root (cell_map plan.cells) (state_in s) h o
+        → LeadsOn code s h root o
     leads plan h (Some t) d =
         let r = runs s d.1 root.header running d.2.at in
         let next = ap (λ (q : LoopState). q.next) r.state in
@@ -122,7 +111,8 @@ module _ (numbers : NumberedLaw) (few : FewAccessesLaw) (rooms : JudgedRoomLaw) 
         record {
           words = d.0;
           instructions = d.1;
-          leaves = d.3.leaves;
+          leaves = d.5;
+          are_turns = d.2;
           sound = d.3.stays.sound;
           regs = d.3.registers ∙ ap (λ (q : LoopState). q.regs) r.state;
           memory = d.3.memory ∙ ap (λ (q : LoopState). q.memory) r.state;
@@ -138,7 +128,8 @@ module _ (numbers : NumberedLaw) (few : FewAccessesLaw) (rooms : JudgedRoomLaw) 
     leads plan h None d = record {
       words = d.0;
       instructions = 0;
-      leaves = d.1.leaves;
+      leaves = d.2;
+      are_turns = refl;
       sound = d.1.stays.sound;
       regs = d.1.registers;
       memory = d.1.memory;
@@ -149,11 +140,36 @@ module _ (numbers : NumberedLaw) (few : FewAccessesLaw) (rooms : JudgedRoomLaw) 
       rest = refl;
     }
 
-    goes : (plan : Plan) (check : Check) (before rest words : List ℕ) (stub : ℕ) (h : Hart) (p : IsPlanOf G elf shape plan check) (a : AreStubWords G plan check (length before) words)
-        → code ≡ before ++ (words ++ rest) → stub ≡ address (length before) → Leaves s stub h → LeadsOn code s h × MeetsNoFault code h
-    goes plan check before rest words stub h p a c at l =
+    has_loop : (shapes : List LoopShape) (at : ℕ) (plan : Plan) (check : Check) → AreLoops G shapes → slice_get shapes at ≡ Some shape
+        → IsPlanOf G elf shape plan check → HasLoop elf s.machine.pc
+    has_loop shapes at plan check loops listed p = record {
+      graph = G;
+      is = is;
+      shapes = shapes;
+      loops = loops;
+      place = at;
+      shape = shape;
+      listed = listed;
+      header = here;
+      root = root;
+      inner = nest.nest.inner;
+      levels = nest.nest.are;
+      plan = plan;
+      check = check;
+      planned = p;
+    }
+
+    abbrev Goes : Hart → Type 0
+    Goes h = (loop : HasLoop elf s.machine.pc) × LeadsOn code s h loop.root (told elf s loop) × MeetsNoFault code h
+
+    goes : (shapes : List LoopShape) (place : ℕ) → AreLoops G shapes → slice_get shapes place ≡ Some shape
+        → (plan : Plan) (check : Check) (before rest words : List ℕ) (stub : ℕ) (h : Hart) (p : IsPlanOf G elf shape plan check)
+        (a : AreStubWords G plan check (length before) words)
+        → code ≡ before ++ (words ++ rest) → stub ≡ address (length before) → Leaves s stub h → Goes h
+    unfolding has_loop
+    goes shapes place loops listed plan check before rest words stub h p a c at l =
         let d = judged elf G shape plan check nest.nest code (length before) a.tests (state_in s) h load is p (added_for plan check before rest words p a c) at_loop (enters (length before) stub h at l) in
-        (leads plan h (answer check s.machine.regs s.machine.memory) d.0, d.1)
+        (has_loop shapes place plan check loops listed p, leads plan h (answer check s.machine.regs s.machine.memory) d.0, d.1)
 
 pub entry_law : NestLaw → NumberedLaw → FewAccessesLaw → JudgedRoomLaw → StubLaw → JudgedLaw → RunLaw → EntryLaw
 entry_law nests numbers few rooms stands judged runs elf entries code s found h load d whole running e l =
@@ -161,9 +177,11 @@ entry_law nests numbers few rooms stands judged runs elf entries code s found h 
     let w = stub_of elf d.are.graph d.are.shapes d.are.places d.stubs entries code s.machine.pc found d.are.stand d.entries_are d.code_is e in
     let shape = w.is.shape in
     let p = w.is.words.planned in
-    let nest = nest_at nests elf d.are.graph shape v.graph (listed_at d.are.graph d.are.shapes w.place shape v.loops w.is.is) p.early in
+    let listed = listed_at d.are.graph d.are.shapes w.place shape v.loops w.is.is in
+    let nest = nest_at nests elf d.are.graph shape v.graph listed p.early in
     let room = d.room in
     let bits : AreShort code = subst AreShort (sym d.code_is) (all_short elf d.are.graph d.are.shapes d.are.places 0 d.stubs d.are.stand) in
     let g = goes numbers few rooms stands judged runs elf d.are.graph shape load v.graph nest code (omega (arith, room)) bits s whole running (sym w.is.header ∙ w.header)
-    w.is.words.plan w.is.words.check w.before w.rest w.stub.words found.stub h p w.is.words.are w.code_is w.at l in
-    (g.0, g.1, header_is entries s.machine.pc found e)
+    d.are.shapes w.place v.loops w.is.is w.is.words.plan w.is.words.check w.before w.rest w.stub.words found.stub h p
+    w.is.words.are w.code_is w.at l in
+    (g.0, g.1, g.2, header_is entries s.machine.pc found e)

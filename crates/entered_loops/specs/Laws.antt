@@ -1,17 +1,28 @@
 -- What the added code at an entry does for the serial run.
-use Rattle.std.specs.Prelude.{ℕ, ◌≡◌, ◌<◌, List, slice_get, Some, None}
+use Rattle.std.specs.Prelude.{ℕ, ◌≡◌, ◌<◌, List, ◌∷◌, slice_get, Option, Some, None}
 use Rattle.std.specs.List.{All}
 use Rattle.elf_image.specs.declared.image.Elf.{Elf}
 use Rattle.elf_image.specs.Layout.{IsLoadable}
-use Rattle.rv64_decode.specs.Hart.{Hart, fetched}
+use Rattle.rv64_decode.specs.Hart.{Hart}
 use Rattle.rv64_decode.specs.Range.{AreWords, AreBytes}
-use Rattle.rv64_decode.specs.declared.xinstr.XInstr.TheVariants.{Back}
 use Rattle.guest_memory.specs.Areas.{areas_of}
 use Rattle.serial_run.specs.Serial.{State, start_of, serial, ended}
 use Rattle.serial_run.specs.Sound.{HaveBytes}
-use Rattle.loop_data.specs.Turns.{HasAreas}
+use Rattle.loop_data.specs.declared.graph.Graph.{Graph}
+use Rattle.loop_data.specs.declared.plans.Plan.{Plan}
+use Rattle.loop_data.specs.declared.shape.Level.{Level}
+use Rattle.loop_data.specs.declared.shape.LoopShape.{LoopShape}
+use Rattle.loop_data.specs.Graphs.{IsGraph}
+use Rattle.loop_data.specs.Loops.{AreLoops}
+use Rattle.loop_data.specs.Turns.{HasAreas, IsArrival}
+use Rattle.alias_checks.specs.declared.lists.Check.{Check}
+use Rattle.alias_checks.specs.declared.lists.Turns.{Turns}
+use Rattle.alias_checks.specs.Answers.{answer}
+use Rattle.loop_choice.specs.Judging.{IsPlanOf}
+use Rattle.loop_samples.specs.SerialRun.{state_in}
 use Rattle.stub_laws.specs.Sound.{IsSound}
 use Rattle.divided_loops.specs.Alone.{run_alone, MeetsNoFault}
+use Rattle.divided_loops.specs.Forks.{forks_of, LeavesFirst}
 use Rattle.image_writer.specs.declared.image.Entry.{Entry}
 use Rattle.hart_core.specs.declared.entries.Found.{Found}
 use Rattle.hart_core.specs.Entering.{entry_at, header_of}
@@ -37,13 +48,41 @@ pub record Leaves (s : State) (stub : ℕ) (h : Hart) : Type 0 where
   pub number : h.number ≡ 0
   pub harts : h.harts ≡ 1
 
--- it comes to a word at which it leaves the added code, with the registers and the memory of the serial run some
--- instructions on, which is at the same pc, has no ending and has read and written nothing since
-pub record LeadsOn (code : List ℕ) (s : State) (h : Hart) : Type 0 where
+-- the listed loop of the executable with this header, its plan and its check
+pub record HasLoop (elf : Elf) (pc : ℕ) : Type 0 where
+  pub graph : Graph
+  pub is : IsGraph elf graph
+  pub shapes : List LoopShape
+  pub loops : AreLoops graph shapes
+  pub place : ℕ
+  pub shape : LoopShape
+  pub listed : slice_get shapes place ≡ Some shape
+  pub header : shape.header ≡ pc
+  pub root : Level
+  pub inner : List Level
+  pub levels : shape.levels ≡ root ∷ inner
+  pub plan : Plan
+  pub check : Check
+  pub planned : IsPlanOf graph elf shape plan check
+
+-- what its check tells of a state at the loop
+abbrev pub told : (elf : Elf) (s : State) → HasLoop elf s.machine.pc → Option Turns
+told elf s loop = answer loop.check s.machine.regs s.machine.memory
+
+-- so many instructions of the serial run are as many turns of the loop as the check tells, and none where it tells none
+abbrev pub AreTurns : Level → State → Option Turns → ℕ → Type 0
+AreTurns root s (Some t) n = IsArrival root (state_in s) t.root n
+AreTurns root s None n = n ≡ 0
+
+-- it comes to the first word at which it leaves the added code, by one fork for the turns that the check tells. It has
+-- the registers and the memory of the serial run these turns on, which is at the same pc, has no ending and has read and
+-- written nothing since
+pub record LeadsOn (code : List ℕ) (s : State) (h : Hart) (root : Level) (turns : Option Turns) : Type 0 where
   -- how many words of added code are executed, and how many instructions of the serial run that is
   pub words : ℕ
   pub instructions : ℕ
-  pub leaves : fetched code (run_alone code words h).pc ≡ Some Back
+  pub leaves : LeavesFirst code words h (forks_of turns)
+  pub are_turns : AreTurns root s turns instructions
   pub sound : IsSound (run_alone code words h)
   pub regs : (run_alone code words h).regs ≡ (serial instructions s).machine.regs
   pub memory : (run_alone code words h).memory ≡ (serial instructions s).machine.memory
@@ -53,9 +92,10 @@ pub record LeadsOn (code : List ℕ) (s : State) (h : Hart) : Type 0 where
   pub output : (serial instructions s).output ≡ s.output
   pub rest : (serial instructions s).rest ≡ s.rest
 
--- where a serial state without an ending is at an entry of the executable's division
+-- where a serial state without an ending is at an entry of the executable's division, a loop has its header there
 abbrev pub EntryLaw : Type 0
 EntryLaw = (elf : Elf) (entries : List Entry) (code : List ℕ) (s : State) (found : Found) (h : Hart) → IsLoadable elf
     → IsDivision elf entries code → IsWhole elf s → ended s ≡ None → entry_at entries s.machine.pc ≡ Some found
     → Leaves s found.stub h
-    → LeadsOn code s h × MeetsNoFault code h × (header_of (slice_get entries found.number) ≡ s.machine.pc)
+    → (loop : HasLoop elf s.machine.pc) × LeadsOn code s h loop.root (told elf s loop) × MeetsNoFault code h
+    × (header_of (slice_get entries found.number) ≡ s.machine.pc)

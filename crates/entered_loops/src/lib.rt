@@ -21,8 +21,9 @@ pub fn serial_states_are_whole()
 }
 
 /// The added code at the entry of a loop leads the only hart back to the header, with the registers and the memory that
-/// the serial run has some instructions on, where it is at the header too, has read and written nothing since and has no
-/// ending. The hart meets no fault on the way.
+/// the serial run has as many turns on as the loop's check tells, or none if it tells none. There the serial run is at the
+/// header too, has read and written nothing since and has no ending. The hart meets one fork on the way, which divides
+/// these turns, or none, and no fault.
 pub fn entries_lead_to_later_arrivals()
     ensures { EntryLaw }
 {

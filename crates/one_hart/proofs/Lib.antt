@@ -1,3 +1,3 @@
-mod Standing
+pub mod Standing
 mod Steps
-mod Whole
+pub mod Whole

@@ -75,10 +75,10 @@ free_event m s h (inl e) = ap (λ (q : Mode). event_by q s 0 h) e
 free_event m s h (inr e) = ap (λ (q : Mode). event_by q s 0 h) e
 
 -- the state of the machine after that event, where the serial state that it leads to is u
-abbrev own_is : State → Hart → SerialState → State
+abbrev pub own_is : State → Hart → SerialState → State
 own_is s h u = record { core = after_own s.core 0 h u.machine; output = u.output; rest = u.rest }
 
-found_running : (o : Option End) (f : Option Found) (found : Found) → if_running o f ≡ Some found → (o ≡ None) × (f ≡ Some found)
+pub found_running : (o : Option End) (f : Option Found) (found : Found) → if_running o f ≡ Some found → (o ≡ None) × (f ≡ Some found)
 found_running None f found e = (refl, e)
 found_running (Some end) f found e = absurd (cc)
 
@@ -122,9 +122,14 @@ between_by image s h u (Some found) e i slots only =
       at = inr (record { found = found; entry = both.1; mode = refl; pc = refl; kept = refl; running = both.0 });
     }
 
+-- what the event makes of the machine
+pub own_event_is : (image : Image) (s : State) (h : Hart) (t : SerialState) → Stands image s h t → IsFree h t.machine.pc → ended t ≡ None
+    → after_event s 0 ≡ own_is s h (step t)
+own_event_is image s h t i f running =
+    let same = same_state s h t f.pc i.regs i.memory i.brk i.ended i.output i.rest in
+    event_is s h i.only (i.ended ∙ running) ∙ free_event h.mode s h f.mode ∙ ap (λ (q : SerialState). own_is s h (step q)) same
+
 pub own_step : (image : Image) (s : State) (h : Hart) (t : SerialState) → Stands image s h t → IsFree h t.machine.pc → ended t ≡ None → IsBetween image (after_event s 0) (step t)
 own_step image s h t i f running =
-    let same = same_state s h t f.pc i.regs i.memory i.brk i.ended i.output i.rest in
-    let is : after_event s 0 ≡ own_is s h (step t) =
-    event_is s h i.only (i.ended ∙ running) ∙ free_event h.mode s h f.mode ∙ ap (λ (q : SerialState). own_is s h (step q)) same in
-    subst (λ (q : State). IsBetween image q (step t)) (sym is) (between_by image s h (step t) (arrival image.entries (step t).machine) refl i.image i.slots i.only)
+    subst (λ (q : State). IsBetween image q (step t)) (sym (own_event_is image s h t i f running))
+    (between_by image s h (step t) (arrival image.entries (step t).machine) refl i.image i.slots i.only)

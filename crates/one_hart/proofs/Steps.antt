@@ -16,7 +16,7 @@ use Rattle.loop_division.specs.Division.{IsDivision}
 use Rattle.stub_laws.specs.Harts.{AreSlots}
 use Rattle.hart_core.specs.Alone.{events_alone}
 use Rattle.added_runs.specs.Laws.{IsInStub, IsQuiet, HasLeft, StubLaw}
-use Rattle.entered_loops.specs.Laws.{IsWhole, Leaves, LeadsOn, EntryLaw}
+use Rattle.entered_loops.specs.Laws.{IsWhole, Leaves, HasLoop, told, LeadsOn, EntryLaw}
 use Rattle.one_hart.specs.Laws.{IsDivided}
 use Rattle.one_hart.proofs.Standing.{IsFree, HasLeftAt, Stands}
 
@@ -78,9 +78,10 @@ module _ (image : Image) (s : State) (h : Hart) (t : SerialState) (i : Stands im
       (λ (code : List ℕ). fetched code (run_alone code n (one s h)).pc ≡ Some Back → MeetsNoFault code (one s h) → Through code n)
       code_is (λ b f. stubs s (one s h) n in_stub b f) back quiet
 
-  comes : (m : ℕ) (lead : LeadsOn image.code t (one s h)) → header_of (slice_get image.entries left.found.number) ≡ t.machine.pc
+  comes : (m : ℕ) (loop : HasLoop image.elf t.machine.pc) (lead : LeadsOn image.code t (one s h) loop.root (told image.elf t loop))
+      → header_of (slice_get image.entries left.found.number) ≡ t.machine.pc
       → HasLeft s (events_alone (suc m) s) h.kept (run_alone image.code lead.words (one s h)) → ((k : ℕ) → k ≤ m → IsQuiet s (events_alone k s)) → Passes image s t
-  comes m lead header l quiet = record {
+  comes m loop lead header l quiet = record {
     events = m;
     instructions = lead.instructions;
     hart = l.hart;
@@ -110,5 +111,5 @@ module _ (image : Image) (s : State) (h : Hart) (t : SerialState) (i : Stands im
       by (inl none) = absurd (no_entry t.machine.pc left.found (ap (λ (es : List Entry). entry_at es t.machine.pc) (sym none) ∙ left.entry))
       by (inr division) =
           let e = entries image.elf image.entries image.code t left.found (one s h) d.loadable division w left.running left.entry enters in
-          let g = goes_through stubs e.0.words e.0.leaves e.1 in
-          comes g.0 e.0 e.2 g.1 g.2
+          let g = goes_through stubs e.1.words e.1.leaves.first.leaves e.2 in
+          comes g.0 e.0 e.1 e.3 g.1 g.2

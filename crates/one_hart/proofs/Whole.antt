@@ -20,15 +20,15 @@ use Rattle.one_hart.proofs.Steps.{Passes, passes}
 
 -- ---- runs one behind the other
 
-serial_both : (n b : ℕ) (s : SerialState) → serial b (serial n s) ≡ serial (n + b) s
+pub serial_both : (n b : ℕ) (s : SerialState) → serial b (serial n s) ≡ serial (n + b) s
 serial_both zero b s = let z : b ≡ 0 + b = omega arith in ap (λ k. serial k s) z
 serial_both (suc n) b s = let z : suc (n + b) ≡ suc n + b = omega arith in serial_both n b (step s) ∙ ap (λ k. serial k s) z
 
-events_both : (n m : ℕ) (s : State) → events_alone m (events_alone n s) ≡ events_alone (n + m) s
+pub events_both : (n m : ℕ) (s : State) → events_alone m (events_alone n s) ≡ events_alone (n + m) s
 events_both zero m s = let z : m ≡ 0 + m = omega arith in ap (λ k. events_alone k s) z
 events_both (suc n) m s = let z : suc (n + m) ≡ suc n + m = omega arith in events_both n m (after_event s 0) ∙ ap (λ k. events_alone k s) z
 
-some_not_none : (o : Option End) → IsSome o → o ≡ None → ⊥
+pub some_not_none : (o : Option End) → IsSome o → o ≡ None → ⊥
 some_not_none None h e = absurd (cc)
 some_not_none (Some end) h e = absurd (cc)
 
@@ -42,7 +42,7 @@ step_stays : (t : SerialState) → IsSome (ended t) → step t ≡ t
 unfolding step
 step_stays t h = serial_stops (ended t) t _ h
 
-serial_stays : (n : ℕ) (t : SerialState) → IsSome (ended t) → serial n t ≡ t
+pub serial_stays : (n : ℕ) (t : SerialState) → IsSome (ended t) → serial n t ≡ t
 serial_stays zero t h = refl
 serial_stays (suc n) t h = ap (serial n) (step_stays t h) ∙ serial_stays n t h
 
@@ -60,7 +60,7 @@ events_stay (suc n) s h = ap (events_alone n) (event_stays s h) ∙ events_stay 
 
 -- ---- endings, moved back over events that do not end the run
 
-none_is : (o : Option End) → o ≡ None → IsNone o
+pub none_is : (o : Option End) → o ≡ None → IsNone o
 none_is None e = refl
 none_is (Some end) e = absurd (cc)
 
@@ -81,6 +81,16 @@ later n m s u before e =
         let same : n + (k - n) ≡ k = omega (arith, high) in
         let at = e.first (k - n) (omega (arith, lt, high)) in
         subst (λ q. IsNone (events_alone q s).core.ended) same (subst (λ (q : State). IsNone q.core.ended) (events_both n (k - n) s) at)
+
+-- ---- the slots of the hart at the start
+
+zeros : (n k : ℕ) → slice_index (replicate n 0) k ≡ 0
+zeros zero k = refl
+zeros (suc n) zero = refl
+zeros (suc n) (suc k) = zeros n k
+
+pub first_slots : AreSlots (replicate 32 0)
+first_slots = record { count = refl; below = λ k. let z = zeros 32 k in omega (arith, z) }
 
 -- ---- the walk
 
@@ -219,14 +229,6 @@ module _ (image : Image) (input : List ℕ) (stubs : StubLaw) (entries : EntryLa
   within (suc f) (suc m) s h t le i free r = within_step f (within f) m s h t (omega (arith, le)) i free r
 
   -- ---- the start
-
-  zeros : (n k : ℕ) → slice_index (replicate n 0) k ≡ 0
-  zeros zero k = refl
-  zeros (suc n) zero = refl
-  zeros (suc n) (suc k) = zeros n k
-
-  first_slots : AreSlots (replicate 32 0)
-  first_slots = record { count = refl; below = λ k. let z = zeros 32 k in omega (arith, z) }
 
   start_by : (found : Option Found) → entry_at image.entries image.elf.entry ≡ found → IsBetween image (start_state image 1 input) (start_of image.elf input)
   unfolding start_core
