@@ -1,0 +1,5 @@
+mod Unique
+mod Counts
+mod Standing
+mod Walking
+mod Sample
