@@ -1,5 +1,5 @@
 -- What each command has done.
-use Rattle.std.proofs.Common.{◌≡◌, ◌≢◌, ◌≤◌, ◌++◌, ℕ, ◌⊎◌, inl, inr, List, [], ◌∷◌, Option, Some, None, Ok, Result}
+use Rattle.std.proofs.Common.{◌≡◌, ◌≢◌, ◌≤◌, ◌<◌, ◌++◌, ℕ, ◌⊎◌, inl, inr, List, [], ◌∷◌, Option, Some, None, Ok, Err, Result, All}
 use Rattle.std.proofs.Common.{Bool, true, false, refl, ap, sym, subst, ◌∙◌, arith}
 use Rattle.std.specs.Prelude.{take, length}
 use Rattle.outside_ports.specs.Ports.{Files, Rose, Lacks, SameButIn}
@@ -8,8 +8,12 @@ use Rattle.elf_image.specs.declared.rules.ElfErr.{ElfErr}
 use Rattle.elf_image.specs.Reading.{reading_of}
 use Rattle.image_writer.specs.declared.image.Image.{Image}
 use Rattle.rewriter.specs.declared.rewriting.Rewritten.{Rewritten}
-use Rattle.rewriter.specs.Admission.{Admission, Admitted, admission_of}
-use Rattle.serial_run.specs.Serial.{start_of, serial, ended}
+use Rattle.rewriter.specs.declared.rewriting.RewriteErr.{RewriteErr}
+use Rattle.rewriter.specs.declared.rewriting.RewriteErr.TheVariants as rewriting
+use Rattle.rewriter.specs.declared.admission.AdmitErr.{AdmitErr}
+use Rattle.rewriter.specs.declared.admission.AdmitErr.TheVariants as admitting
+use Rattle.rewriter.specs.Admission.{IsAdmission, OneAdmissionLaw}
+use Rattle.rewriter.specs.Rewriting.{IsRewriting}
 use Rattle.serial_run.specs.declared.machine.End.{End}
 use Rattle.serial_run.specs.declared.machine.End.TheVariants.{Exited as DidExit, Faulted as DidFault, Spent as DidSpend}
 use Rattle.serial_run.specs.declared.machine.End.TheVariants.{ReadFault as SourceFault, WriteFault as SinkFault}
@@ -20,17 +24,23 @@ use Rattle.loop_choice.specs.declared.judged.Judged.{Judged}
 use Rattle.loop_choice.specs.declared.refusal.ChooseErr.{ChooseErr}
 use Rattle.loop_choice.specs.declared.refusal.ChooseErr.TheVariants.{TooManyLoops as Crowded}
 use Rattle.loop_choice.specs.Choice.{AreTooMany, IsChoiceRefused}
-use Rattle.rewrite_cli.specs.Listing.{Listing, Lines, TooMany, TooManyChosen, AreVerdicts, ChoosesTooMany}
+use Rattle.loop_data.specs.declared.graph.Graph.{Graph}
+use Rattle.loop_data.specs.declared.shape.LoopShape.{LoopShape}
+use Rattle.loop_division.specs.LoopVerdicts.{AreVerdicts, ChoosesTooMany}
+use Rattle.rewrite_cli.specs.Listing.{Listing, Lines, TooMany, TooManyChosen}
 use Rattle.rewrite_cli.specs.Listing.{IsListing}
 use Rattle.rewrite_cli.specs.declared.status.Reason.TheVariants.{TooManyWords, TooManyLoops}
 use Rattle.rewrite_cli.specs.Needs.{LacksOne}
-use Rattle.rewrite_cli.specs.Counts.{no_counts, of_sample}
+use Rattle.rewrite_cli.specs.Counts.{OfNothing, OfSample}
 use Rattle.rewrite_cli.specs.Texts.{report_of}
 use Rattle.rewrite_cli.specs.Status.{is_from_outside, is_refusal, comes_first}
-use Rattle.rewrite_cli.specs.Effect.{Effect, IsMomentOf, Does, Passes, StartsRun, HoldsImage, HoldsLines, OfImage}
-use Rattle.rewrite_cli.specs.Effect.{OfReading, Runs, RunsFile, ListsFile, OfFile, load_limit, only, ran, status_of}
+use Rattle.rewrite_cli.specs.Runs.{view_of, status_of}
+use Rattle.rewrite_cli.specs.Effect.{Effect, IsMomentOf, Does, Passes, StartsRun, HoldsImage, HoldsLines, OfAdmission}
+use Rattle.rewrite_cli.specs.Effect.{OfReading, Runs, RunsAs, RunsFile, RewritesFile, ListsFile, OfFile, load_limit, only, ran}
+use Rattle.rewrite_cli.specs.Effect.{status_of_refusal, status_of_admission}
 use Rattle.rewrite_cli.specs.Effect.{listed, image_saved, counts_of, sample_saved, MakesSample}
-use Rattle.rewrite_cli.specs.Answer.{Stored, Stream, Outside, outside, Appends, AreSaved, StayBut, IsMet, Stops}
+use Rattle.rewrite_cli.specs.Outside.{Stored, Stream, Outside, outside}
+use Rattle.rewrite_cli.specs.Answer.{Appends, AreSaved, StayBut, IsMet, Stops}
 use Rattle.rewrite_cli.specs.Answer.{HasCause, IsDone, RunsTo}
 use Rattle.rewrite_cli.specs.declared.status.Status.{Status}
 use Rattle.rewrite_cli.specs.declared.status.Status.TheVariants.{Done, Usage, Refused, OutOfMemory, WriteFault}
@@ -86,7 +96,7 @@ rewritten_done file new bytes store between now input output answer text made ke
 
 pub made_done : (kind : Kind) (size : ℕ) (new bytes : List ℕ) (store now : Stored) (input output : Stream)
     (answer : Status) (text : List ℕ) → (answer ≡ Done) ⊎ ((answer ≡ StoreFault) ⊎ (answer ≡ OutOfMemory))
-    → text ≡ report_of (of_sample (length bytes)) answer → size ≤ limit kind → bytes ≡ sample_bytes kind size
+    → text ≡ report_of (OfSample (length bytes)) answer → size ≤ limit kind → bytes ≡ sample_bytes kind size
     → ((m : Files) → store.files ≡ Some m → answer ≡ Done → AreSaved m now.files ((new, bytes) ∷ []))
     → ((m : Files) → store.files ≡ Some m → is_from_outside answer ≡ true
     → StayBut answer m now.files ((new, bytes) ∷ []))
@@ -96,7 +106,7 @@ pub made_done : (kind : Kind) (size : ℕ) (new bytes : List ℕ) (store now : S
     → IsDone (Some (Make kind size new)) (outside store input output) (outside now input output) answer text
 made_done kind size new bytes store now input output answer text kept is fits made saved stays others fault failed =
     ended_done (Some (Make kind size new)) (outside store input output) (outside now input output) Done answer
-    (of_sample (length bytes)) text kept is refl tt fault failed
+    (OfSample (length bytes)) text kept is refl tt fault failed
     (λ m files. same_but_one m now.files new (others m files))
     (λ m xs tells. (
       sample_saved kind size new xs,
@@ -104,7 +114,7 @@ made_done kind size new bytes store now input output answer text kept is fits ma
         does = inr (fits, refl);
         ready = record {
           status_is = refl;
-          report = ap (λ (v : List ℕ). report_of (of_sample (length v)) Done) made;
+          report = ap (λ (v : List ℕ). report_of (OfSample (length v)) Done) made;
           output = appends_nothing output.bytes;
           rest = λ told. told;
         };
@@ -117,7 +127,7 @@ made_done kind size new bytes store now input output answer text kept is fits ma
 -- a sample that is refused, or for which memory is wanted
 pub unmade_done : (kind : Kind) (size : ℕ) (new : List ℕ) (store : Stored) (input output : Stream)
     (status answer : Status) (text : List ℕ) → (answer ≡ status) ⊎ (answer ≡ OutOfMemory)
-    → text ≡ report_of no_counts answer → (is_refusal status ≡ true) × (status ≢ StoreFault)
+    → text ≡ report_of OfNothing answer → (is_refusal status ≡ true) × (status ≢ StoreFault)
     → (is_from_outside status ≡ false → (new xs : List ℕ) → MakesSample kind size new xs (only status xs))
     → IsDone (Some (Make kind size new)) (outside store input output) (outside store input output) answer text
 unmade_done kind size new store input output status answer text kept is refusal does =
@@ -147,12 +157,15 @@ pub too_many_reached : (elf : Elf) (status : Status)
 too_many_reached elf status h = (TooMany h.0, h.2, λ xs. ap (λ (v : Status). only v xs) h.1)
 
 -- and of one of which too many loops are chosen
-pub too_many_chosen : (elf : Elf) (all slice : List Judged) (why : ChooseErr) (count : ℕ) → slice ≡ all
-    → AreVerdicts elf all → why ≡ Crowded count → IsChoiceRefused slice why → (listing : Listing)
+pub too_many_chosen : (elf : Elf) (G : Graph) (shapes : List LoopShape) (all slice : List Judged) (why : ChooseErr)
+    (count : ℕ) → slice ≡ all
+    → AreVerdicts elf G shapes all → why ≡ Crowded count → IsChoiceRefused slice why → (listing : Listing)
     × IsListing elf listing × ((xs : List ℕ) → only (Refused (TooManyLoops count)) xs ≡ listed listing xs)
-too_many_chosen elf all slice why count same verdicts is refused =
+too_many_chosen elf G shapes all slice why count same verdicts is refused =
     let many : AreTooMany slice count = subst (λ (v : ChooseErr). IsChoiceRefused slice v) is refused in
     let chosen : ChoosesTooMany elf count = record {
+      graph = G;
+      shapes = shapes;
       all = all;
       verdicts = verdicts;
       many = subst (λ (v : List Judged). AreTooMany v count) same many;
@@ -165,8 +178,8 @@ pub listed_done : (file lines : List ℕ) (store now : Stored) (input output wri
     → IsDone (Some (Loops file)) (outside store input output) (outside now input written) answer text
 listed_done file lines store now input output written answer text e is same holds appends =
     record {
-      counts = no_counts;
-      text_is = is ∙ ap (λ (v : Status). report_of no_counts v) (sym e);
+      counts = OfNothing;
+      text_is = is ∙ ap (λ (v : Status). report_of OfNothing v) (sym e);
       cause = subst (λ (v : Status). HasCause (Some (Loops file)) (outside store input output)
           (outside now input written) v) (sym e) tt;
       inside = λ m xs tells f.
@@ -183,15 +196,15 @@ listed_done file lines store now input output written answer text e is same hold
     }
 
 pub cut_list_done : (file lines : List ℕ) (store now : Stored) (input output written : Stream) (answer : Status)
-    (text : List ℕ) → answer ≡ WriteFault → text ≡ report_of no_counts WriteFault → now.files ≡ store.files
+    (text : List ℕ) → answer ≡ WriteFault → text ≡ report_of OfNothing WriteFault → now.files ≡ store.files
     → ((m : Files) → store.files ≡ Some m → HoldsLines (m file) lines)
     → ((ys : List ℕ) → output.bytes ≡ Some ys → (k : ℕ) × (written.bytes ≡ Some (ys ++ take k lines)))
     → Rose output.faults written.faults
     → IsDone (Some (Loops file)) (outside store input output) (outside now input written) answer text
 cut_list_done file lines store now input output written answer text e is same holds part rose =
     record {
-      counts = no_counts;
-      text_is = is ∙ ap (λ (v : Status). report_of no_counts v) (sym e);
+      counts = OfNothing;
+      text_is = is ∙ ap (λ (v : Status). report_of OfNothing v) (sym e);
       cause = subst (λ (v : Status). HasCause (Some (Loops file)) (outside store input output)
           (outside now input written) v) (sym e) rose;
       inside = λ m xs tells f. let g = rw e at f in absurd (cc);
@@ -210,13 +223,22 @@ cut_list_done file lines store now input output written answer text e is same ho
 
 -- ---- runs
 
+-- an image does what its executable does, for each input of bytes
+abbrev pub DoesAsExecutable : ℕ → Option (List ℕ) → Image → Type 0
+DoesAsExecutable fuel dump image =
+    (xs : List ℕ) → All (λ (b : ℕ). b < 256) xs → RunsAs fuel dump xs image (ran fuel dump image xs)
+
 pub image_does : (content : Option (List ℕ)) (image : Image) (fuel : ℕ) (dump : Option (List ℕ)) (xs : List ℕ)
-    → HoldsImage content image
-    → OfFile load_limit (RunsFile fuel dump xs) xs content (ran fuel dump (start_of image.elf xs))
-image_does content image fuel dump xs h =
-    loaded load_limit (RunsFile fuel dump xs) xs content h.bytes (ran fuel dump (start_of image.elf xs)) h.are h.within
-    (let does : OfImage (Runs fuel dump xs) xs (admission_of h.bytes) (ran fuel dump (start_of image.elf xs)) = rw
-    h.admitted refl in does)
+    → HoldsImage content image → DoesAsExecutable fuel dump image
+    → OfFile load_limit (RunsFile fuel dump xs) xs content (ran fuel dump image xs)
+image_does content image fuel dump xs h alike =
+    loaded load_limit (RunsFile fuel dump xs) xs content h.bytes (ran fuel dump image xs) h.are h.within
+    (record {
+      admission = Ok image;
+      is = h.admitted;
+      found = λ e. cc;
+      does = record { is = refl; as_executable = alike xs };
+    })
 
 run_cause : (file : List ℕ) (fuel : ℕ) (dump : Option (List ℕ)) (before after : Outside) (answer : Status)
     → comes_first answer ≡ false → (answer ≡ StoreFault → Rose before.store.faults after.store.faults)
@@ -258,14 +280,14 @@ behind_why R effect answer r (inr e) = inr (e.0, inl r)
 
 stops_since : (file : List ℕ) (fuel : ℕ) (dump : Option (List ℕ)) (image : Image) (m : Files) (xs : List ℕ)
     (store between now : Stored) (input output read written : Stream) (answer : Status) → between.files ≡ store.files
-    → HoldsImage (m file) image
-    → Stops (IsMomentOf fuel (start_of image.elf xs)) (λ effect. effect ≡ ran fuel dump (start_of image.elf xs))
+    → HoldsImage (m file) image → DoesAsExecutable fuel dump image
+    → Stops (IsMomentOf fuel (view_of image xs)) (λ effect. effect ≡ ran fuel dump image xs)
     (Unit {0}) m xs (outside between input output) (outside now read written) answer
     → Stops (Passes (Some (Run file fuel dump)) m xs) (Does (Some (Run file fuel dump)) m xs)
     (StartsRun (Some (Run file fuel dump)) m) m xs (outside store input output) (outside now read written) answer
-stops_since file fuel dump image m xs store between now input output read written answer same holds (inl h) =
+stops_since file fuel dump image m xs store between now input output read written answer same holds alike (inl h) =
     inl (record { output = h.output; rest = h.rest; files = h.files ∙ same })
-stops_since file fuel dump image m xs store between now input output read written answer same holds (inr (inl h)) =
+stops_since file fuel dump image m xs store between now input output read written answer same holds alike (inr (inl h)) =
     inr (inl (
       h.0,
       (
@@ -279,12 +301,12 @@ stops_since file fuel dump image m xs store between now input output read writte
         },
       ),
     ))
-stops_since file fuel dump image m xs store between now input output read written answer same holds (inr (inr h)) =
+stops_since file fuel dump image m xs store between now input output read written answer same holds alike (inr (inr h)) =
     inr (inr (
       h.0,
       (
         subst (λ (v : Effect). OfFile load_limit (RunsFile fuel dump xs) xs (m file) v) (sym h.1.0)
-            (image_does (m file) image fuel dump xs holds),
+            (image_does (m file) image fuel dump xs holds alike),
         record {
           why = behind_why (StartsRun (Some (Run file fuel dump)) m) h.0 answer (image, holds) h.1.1.why;
           output = h.1.1.output;
@@ -301,11 +323,10 @@ stops_since file fuel dump image m xs store between now input output read writte
 pub run_done : (file : List ℕ) (fuel : ℕ) (dump : Option (List ℕ)) (image : Image) (store between now : Stored)
     (input output read written : Stream) (answer : Status) (text : List ℕ)
     → between.files ≡ store.files → store.faults ≤ between.faults → between.failed_saves ≡ store.failed_saves
-    → ((m : Files) → store.files ≡ Some m → HoldsImage (m file) image)
-    → RunsTo image.elf fuel dump (outside between input output) (outside now read written) answer text
+    → ((m : Files) → store.files ≡ Some m → HoldsImage (m file) image) → DoesAsExecutable fuel dump image
+    → RunsTo image fuel dump (outside between input output) (outside now read written) answer text
     → IsDone (Some (Run file fuel dump)) (outside store input output) (outside now read written) answer text
-run_done file fuel dump image store between now input output read written answer text same rises unsaved holds r
-    =
+run_done file fuel dump image store between now input output read written answer text same rises unsaved holds alike r =
     record {
       counts = r.counts;
       text_is = r.text_is;
@@ -315,10 +336,10 @@ run_done file fuel dump image store between now input output read written answer
       inside = λ m xs tells f.
           let files = tells.files_are (λ e. cc) in
           let told = tells.input_is (image, holds m files) in (
-            ran fuel dump (start_of image.elf xs),
+            ran fuel dump image xs,
             (
-              image_does (m file) image fuel dump xs (holds m files),
-              met_since (ran fuel dump (start_of image.elf xs)) m xs store between now input output read written
+              image_does (m file) image fuel dump xs (holds m files) alike,
+              met_since (ran fuel dump image xs) m xs store between now input output read written
                   answer text same (r.inside m xs (same ∙ files) told f),
             ),
           );
@@ -326,7 +347,7 @@ run_done file fuel dump image store between now input output read written answer
           let files = tells.files_are (λ e. cc) in
           let told = tells.input_is (image, holds m files) in
           stops_since file fuel dump image m xs store between now input output read written answer same
-          (holds m files) (r.stopped m xs (same ∙ files) told f);
+          (holds m files) alike (r.stopped m xs (same ∙ files) told f);
       store_fault = λ e. inl (subst (λ (v : ℕ). Rose v now.failed_saves) unsaved (r.failed_save e));
       others = λ m files. r.others m (same ∙ files);
     }
@@ -342,19 +363,56 @@ late_status (Some SourceFault) = refl
 late_status (Some SinkFault) = refl
 
 -- the image of a file that is not too long is run, so that the answer to it is no refusal
-pub run_answers : (content : Option (List ℕ)) (image : Image) (fuel : ℕ) (dump : Option (List ℕ)) (xs : List ℕ)
-    (status : Status) → HoldsImage content image
+pub run_answers : OneAdmissionLaw → (content : Option (List ℕ)) (image : Image) (fuel : ℕ) (dump : Option (List ℕ))
+    (xs : List ℕ) (status : Status) → HoldsImage content image
     → OfFile load_limit (RunsFile fuel dump xs) xs content (only status xs) → comes_first status ≡ false
-run_answers content image fuel dump xs status h does = of_some (rw h.are at does)
+run_answers law content image fuel dump xs status h does = of_some (rw h.are at does)
   where
-    of_admitted : OfImage (Runs fuel dump xs) xs (Admitted image) (only status xs) → comes_first status ≡ false
-    of_admitted e =
-        ap (λ (v : Effect). comes_first v.status) e ∙ late_status (ended (serial fuel (start_of image.elf xs)))
+    of_admitted : RunsFile fuel dump xs h.bytes (only status xs) → comes_first status ≡ false
+    of_admitted r =
+        let same : r.admission ≡ Ok image =
+        law h.bytes r.admission (Ok image) r.is h.admitted r.found (λ e. cc) in
+        let runs : Runs fuel dump xs image (only status xs) =
+        subst (λ (a : Result Image AdmitErr). OfAdmission (Runs fuel dump xs) xs a (only status xs)) same r.does in
+        ap (λ (v : Effect). comes_first v.status) runs.is ∙ late_status (view_of image xs fuel).ended
 
     of_some : OfFile load_limit (RunsFile fuel dump xs) xs (Some h.bytes) (only status xs) → comes_first status ≡ false
     of_some (inl p) = let long = p.0 in let short = h.within in absurd (omega arith)
-    of_some (inr p) =
-        of_admitted (subst (λ (v : Admission). OfImage (Runs fuel dump xs) xs v (only status xs)) h.admitted p.1)
+    of_some (inr p) = of_admitted p.1
+
+-- ---- files that are refused
+
+no_room : {X : Type 0} → is_from_outside OutOfMemory ≡ false → X
+no_room h = absurd (cc)
+
+-- a file that is not admitted is not run
+pub refused_run : (bytes : List ℕ) (why : AdmitErr) → IsAdmission bytes (Err why)
+    → is_from_outside (status_of_admission why) ≡ false → (fuel : ℕ) (dump : Option (List ℕ)) (xs : List ℕ)
+    → RunsFile fuel dump xs bytes (only (status_of_admission why) xs)
+refused_run bytes why is inside fuel dump xs =
+    record { admission = Err why; is = is; found = λ e. found why e inside; does = refl }
+  where
+    found : (w : AdmitErr) → ◌≡◌ {A = Result Image AdmitErr} (Err w) (Err admitting.OutOfMemory)
+        → is_from_outside (status_of_admission w) ≡ false → ⊥
+    found admitting.BadMark e f = cc
+    found (admitting.Original w) e f = cc
+    found (admitting.Altered offset) e f = cc
+    found admitting.OutOfMemory e f = no_room f
+
+-- one that has no image is not saved
+pub refused_rewriting : (bytes : List ℕ) (why : RewriteErr) → IsRewriting bytes (Err why)
+    → is_from_outside (status_of_refusal why) ≡ false → (new xs : List ℕ)
+    → RewritesFile new xs bytes (only (status_of_refusal why) xs)
+refused_rewriting bytes why is inside new xs =
+    record { rewriting = Err why; is = is; found = λ e. found why e inside; does = refl }
+  where
+    found : (w : RewriteErr) → ◌≡◌ {A = Result Rewritten RewriteErr} (Err w) (Err rewriting.OutOfMemory)
+        → is_from_outside (status_of_refusal w) ≡ false → ⊥
+    found (rewriting.Elf why) e f = cc
+    found (rewriting.TooManyWords count) e f = cc
+    found (rewriting.TooManyLoops count) e f = cc
+    found (rewriting.CodeTooLong words) e f = cc
+    found rewriting.OutOfMemory e f = no_room f
 
 -- also where memory is wanted in its place
 pub kept_late : (status answer : Status) → (answer ≡ status) ⊎ (answer ≡ OutOfMemory)

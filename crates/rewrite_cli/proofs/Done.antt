@@ -6,12 +6,13 @@ use Rattle.outside_ports.specs.Ports.{Files, Rose, SameButIn}
 use Rattle.rewrite_cli.specs.Words.{Command}
 use Rattle.rewrite_cli.specs.Needs.{needs_of, LacksOne, SameBut}
 use Rattle.rewrite_cli.specs.Effect.{Effect, Does, StartsRun, only}
-use Rattle.rewrite_cli.specs.Answer.{Stored, Stream, Outside, outside, IsGiven, Tells, Appends, LeavesRest, AreSaved}
+use Rattle.rewrite_cli.specs.Outside.{Stored, Stream, Outside, outside}
+use Rattle.rewrite_cli.specs.Answer.{IsGiven, Tells, Appends, LeavesRest, AreSaved}
 use Rattle.rewrite_cli.specs.Answer.{StayBut, IsMet, StopsBehind, HasCause, IsDone, LeavesAlone}
-use Rattle.rewrite_cli.specs.Counts.{no_counts}
+use Rattle.rewrite_cli.specs.Counts.{OfNothing}
 use Rattle.rewrite_cli.specs.Status.{is_from_outside, is_refusal, comes_first, keeps_files}
 use Rattle.rewrite_cli.specs.Texts.{report_of}
-use Rattle.rewrite_cli.specs.declared.counts.Counts.{Counts}
+use Rattle.rewrite_cli.specs.Counts.{Tally}
 use Rattle.rewrite_cli.specs.declared.status.Status.{Status}
 use Rattle.rewrite_cli.specs.declared.status.Status.TheVariants.{Refused, OutOfMemory, WriteFault, StoreFault}
 
@@ -65,12 +66,12 @@ kept_cause command before after status answer (inr e) h = subst (λ (s : Status)
 -- ---- a file that is refused
 
 only_met : (m : Files) (xs : List ℕ) (store now : Stored) (input output : Stream) (status answer : Status)
-    (text : List ℕ) → answer ≡ status → text ≡ report_of no_counts answer → now.files ≡ store.files
+    (text : List ℕ) → answer ≡ status → text ≡ report_of OfNothing answer → now.files ≡ store.files
     → IsMet (only status xs) m xs (outside store input output) (outside now input output) answer text
 only_met m xs store now input output status answer text e t same =
     record {
       status = e;
-      report = t ∙ ap (λ (s : Status). report_of no_counts s) e;
+      report = t ∙ ap (λ (s : Status). report_of OfNothing s) e;
       output = appends_nothing output.bytes;
       rest = λ told. told;
       saved = λ files. same ∙ files;
@@ -78,7 +79,7 @@ only_met m xs store now input output status answer text e t same =
 
 pub refused_done : (command : Option Command) (store now : Stored) (input output : Stream) (status answer : Status)
     (text : List ℕ) → (answer ≡ status) ⊎ (answer ≡ OutOfMemory)
-    → text ≡ report_of no_counts answer → is_refusal status ≡ true
+    → text ≡ report_of OfNothing answer → is_refusal status ≡ true
     → (status ≡ StoreFault → Rose store.faults now.faults ⊎ LacksOne store.files (needs_of command).loads)
     → now.files ≡ store.files → (needs_of command).loads ≢ []
     → (is_from_outside status ≡ false → (m : Files) → store.files ≡ Some m → (xs : List ℕ)
@@ -86,7 +87,7 @@ pub refused_done : (command : Option Command) (store now : Stored) (input output
     → IsDone command (outside store input output) (outside now input output) answer text
 refused_done command store now input output status answer text kept t refusal fault same loads does =
     record {
-      counts = no_counts;
+      counts = OfNothing;
       text_is = t;
       cause = kept_cause command (outside store input output) (outside now input output) status answer kept
           (refusal_cause command (outside store input output) (outside now input output) status refusal fault);
@@ -108,14 +109,14 @@ refused_done command store now input output status answer text kept t refusal fa
 
 -- an effect that was to be met, up to its files
 pub record IsReady (effect : Effect) (m : Files) (input : List ℕ) (before after : Outside) (status : Status)
-    (counts : Counts) : Type 0 where
+    (counts : Tally) : Type 0 where
   pub status_is : status ≡ effect.status
   pub report : report_of counts status ≡ effect.report
   pub output : Appends before.output.bytes after.output.bytes effect.output
   pub rest : LeavesRest before.input.bytes after.input.bytes input effect.rest
 
 pub ready_met : (effect : Effect) (m : Files) (xs : List ℕ) (before after : Outside) (status answer : Status)
-    (counts : Counts) (text : List ℕ) → answer ≡ status → text ≡ report_of counts answer
+    (counts : Tally) (text : List ℕ) → answer ≡ status → text ≡ report_of counts answer
     → IsReady effect m xs before after status counts → (before.store.files ≡ Some m
     → AreSaved m after.store.files effect.saved) → IsMet effect m xs before after answer text
 ready_met effect m xs before after status answer counts text e t ready saved =
@@ -136,7 +137,7 @@ late Running effect status answer (inr (inl e)) f t more = inl e
 late Running effect status answer (inr (inr e)) f t more = inr (e, more)
 
 pub ready_behind : (effect : Effect) (Running : Type 0) (m : Files) (xs : List ℕ) (before after : Outside)
-    (status answer : Status) (counts : Counts) → IsReady effect m xs before after status counts
+    (status answer : Status) (counts : Tally) → IsReady effect m xs before after status counts
     → (answer ≡ status) ⊎ ((answer ≡ StoreFault) ⊎ (answer ≡ OutOfMemory)) → is_from_outside status ≡ false
     → is_from_outside answer ≡ true → Running ⊎ (effect.saved ≢ [])
     → (before.store.files ≡ Some m → StayBut answer m after.store.files effect.saved)
@@ -166,7 +167,7 @@ saving_cause command before after status answer (inr (inr e)) h fault = subst
 
 -- an effect that a command has come to, but for a save that failed, and for want of memory
 pub record IsEnd (command : Option Command) (effect : Effect) (m : Files) (input : List ℕ) (before after : Outside)
-    (status answer : Status) (counts : Counts) : Type 0 where
+    (status answer : Status) (counts : Tally) : Type 0 where
   pub does : Does command m input effect
   pub ready : IsReady effect m input before after status counts
   pub saved : answer ≡ status → before.store.files ≡ Some m → AreSaved m after.store.files effect.saved
@@ -175,7 +176,7 @@ pub record IsEnd (command : Option Command) (effect : Effect) (m : Files) (input
   pub more : StartsRun command m ⊎ (effect.saved ≢ [])
 
 -- a command that has come to its end
-pub ended_done : (command : Option Command) (before after : Outside) (status answer : Status) (counts : Counts)
+pub ended_done : (command : Option Command) (before after : Outside) (status answer : Status) (counts : Tally)
     (text : List ℕ) → (answer ≡ status) ⊎ ((answer ≡ StoreFault) ⊎ (answer ≡ OutOfMemory))
     → text ≡ report_of counts answer → is_from_outside status ≡ false → HasCause command before after status
     → (answer ≡ StoreFault → Rose before.store.faults after.store.faults)
@@ -215,13 +216,13 @@ no_store_fault answer status (inr e) other f = cc
 -- a command that has no file
 pub plain_done : (command : Option Command) (store : Stored) (input output : Stream) (status answer : Status)
     (text : List ℕ) → (answer ≡ status) ⊎ (answer ≡ OutOfMemory)
-    → text ≡ report_of no_counts answer → HasCause command (outside store input output) (outside store input output)
+    → text ≡ report_of OfNothing answer → HasCause command (outside store input output) (outside store input output)
     status → status ≢ StoreFault
     → (is_from_outside status ≡ false → (m : Files) (xs : List ℕ) → Does command m xs (only status xs))
     → IsDone command (outside store input output) (outside store input output) answer text
 plain_done command store input output status answer text kept t cause other does =
     record {
-      counts = no_counts;
+      counts = OfNothing;
       text_is = t;
       cause = kept_cause command (outside store input output) (outside store input output) status answer kept cause;
       inside = λ m xs tells f.

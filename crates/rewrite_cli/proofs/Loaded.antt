@@ -6,7 +6,8 @@ use Rattle.rv64_decode.specs.Area.{Area}
 use Rattle.guest_memory.specs.Spans.{all_bytes}
 use Rattle.outside_ports.specs.Ports.{Files, PassesLimit, SavedIn, SameButIn}
 use Rattle.outside_ports.specs.Fakes.{File}
-use Rattle.rewrite_cli.specs.Effect.{Effect, OfFile, only, dump_of}
+use Rattle.rewrite_cli.specs.Effect.{Effect, OfFile, only}
+use Rattle.rewrite_cli.specs.Runs.{dump_of}
 use Rattle.rewrite_cli.specs.Needs.{SameBut, names_of}
 use Rattle.rewrite_cli.specs.Answer.{AreSaved}
 use Rattle.rewrite_cli.specs.Status.{is_ending}

@@ -4,41 +4,17 @@ use Rattle.outside_ports.specs.Ports.{Files, Rose, SavedIn, SameButIn}
 use Rattle.outside_ports.specs.Fakes.{File}
 use Rattle.rewrite_cli.specs.Words.{Command}
 use Rattle.rewrite_cli.specs.Needs.{needs_of, names_of, LacksOne, SameBut}
-use Rattle.elf_image.specs.declared.image.Elf.{Elf}
-use Rattle.serial_run.specs.Serial.{start_of}
+use Rattle.image_writer.specs.declared.image.Image.{Image}
+use Rattle.rewrite_cli.specs.Outside.{Stored, Stream, Outside}
 use Rattle.rewrite_cli.specs.Effect.{Effect, Does, StartsRun, StartsOutput, Moment, IsMomentOf, Passes, ran}
 use Rattle.rewrite_cli.specs.Status.{is_from_outside, comes_first}
 use Rattle.rewrite_cli.specs.Texts.{report_of}
-use Rattle.rewrite_cli.specs.declared.counts.Counts.{Counts}
+use Rattle.rewrite_cli.specs.Counts.{Tally}
+use Rattle.serial_run.specs.Runs.{from_outside}
+use Rattle.serial_run.specs.declared.machine.End.{End}
+use Rattle.rewrite_cli.specs.Runs.{View, view_of}
 use Rattle.rewrite_cli.specs.declared.status.Status.{Status}
 use Rattle.rewrite_cli.specs.declared.status.Status.TheVariants.{Usage, StoreFault, ReadFault, WriteFault, OutOfMemory}
-
--- ---- what the outside tells
-
--- the files that a store tells, and its counts of faults and of failed saves
-pub record Stored : Type 0 where
-  pub files : Option Files
-  pub faults : ℕ
-  pub failed_saves : ℕ
-
--- the bytes that an input tells to be left, or an output to be written, and its count of faults
-pub record Stream : Type 0 where
-  pub bytes : Option (List ℕ)
-  pub faults : ℕ
-
-pub record Outside : Type 0 where
-  pub store : Stored
-  pub input : Stream
-  pub output : Stream
-
-abbrev pub stored : Option Files → ℕ → ℕ → Stored
-stored files faults failed_saves = record { files = files; faults = faults; failed_saves = failed_saves }
-
-abbrev pub stream : Option (List ℕ) → ℕ → Stream
-stream bytes faults = record { bytes = bytes; faults = faults }
-
-abbrev pub outside : Stored → Stream → Stream → Outside
-outside store input output = record { store = store; input = input; output = output }
 
 -- these are the store's files, which it tells where the command loads any, and the bytes of the input,
 -- which it tells where a guest's run starts
@@ -130,7 +106,7 @@ HasCause command before after _ = Unit {0}
 -- what a command has done that has this answer to give, with this text as its report
 pub record IsDone (command : Option Command) (before after : Outside) (answer : Status) (text : List ℕ) : Type 0 where
   -- the text is a report of the answer
-  pub counts : Counts
+  pub counts : Tally
   pub text_is : text ≡ report_of counts answer
   pub cause : HasCause command before after answer
   -- an answer that is not from outside: there is an effect that the command has, and all is as it says
@@ -145,10 +121,15 @@ pub record IsDone (command : Option Command) (before after : Outside) (answer : 
   -- files of other names than those that the command saves under stay
   pub others : (m : Files) → before.store.files ≡ Some m → SameBut m after.store.files (needs_of command).saves
 
--- what a run of an executable has done, and the saving of its memory under a name
-pub record RunsTo (elf : Elf) (fuel : ℕ) (dump : Option (List ℕ)) (before after : Outside) (answer : Status)
+-- this is what is counted of a run of at most so many steps that tells this ending, where no port met a fault
+abbrev pub HasTally : ℕ → (List ℕ → ℕ → View) → Stream → End → Tally → Type 0
+HasTally fuel view input end tally =
+    (xs : List ℕ) → input.bytes ≡ Some xs → from_outside end ≡ false → tally ≡ (view xs fuel).tally
+
+-- what a run of an image has done, and the saving of its memory under a name
+pub record RunsTo (image : Image) (fuel : ℕ) (dump : Option (List ℕ)) (before after : Outside) (answer : Status)
     (text : List ℕ) : Type 0 where
-  pub counts : Counts
+  pub counts : Tally
   pub text_is : text ≡ report_of counts answer
   pub late : comes_first answer ≡ false
   pub store_fault : answer ≡ StoreFault → Rose before.store.faults after.store.faults
@@ -157,10 +138,10 @@ pub record RunsTo (elf : Elf) (fuel : ℕ) (dump : Option (List ℕ)) (before af
   pub write_fault : answer ≡ WriteFault → Rose before.output.faults after.output.faults
   pub inside : (m : Files) (input : List ℕ) → before.store.files ≡ Some m → before.input.bytes ≡ Some input
       → is_from_outside answer ≡ false
-      → IsMet (ran fuel dump (start_of elf input)) m input before after answer text
+      → IsMet (ran fuel dump image input) m input before after answer text
   pub stopped : (m : Files) (input : List ℕ) → before.store.files ≡ Some m → before.input.bytes ≡ Some input
       → is_from_outside answer ≡ true
-      → Stops (IsMomentOf fuel (start_of elf input)) (λ effect. effect ≡ ran fuel dump (start_of elf input))
+      → Stops (IsMomentOf fuel (view_of image input)) (λ effect. effect ≡ ran fuel dump image input)
       (Unit {0}) m input before after answer
   pub others : (m : Files) → before.store.files ≡ Some m → SameBut m after.store.files (names_of dump)
 

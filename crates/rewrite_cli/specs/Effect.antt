@@ -1,37 +1,39 @@
 -- What a command does where the outside does not fail and memory is found.
-use Rattle.std.specs.Prelude.{ℕ, suc, ◌≡◌, ◌⊎◌, ◌<◌, ◌≤◌, ◌++◌, if◌then◌else◌, List, [], ◌∷◌, Option, Some, None}
-use Rattle.std.specs.Prelude.{Result, Ok, Err, length, IsNone}
+use Rattle.std.specs.Prelude.{ℕ, suc, ◌≡◌, ◌≢◌, ◌⊎◌, ◌<◌, ◌≤◌, ◌++◌, ◌^◌, true, map, List, [], ◌∷◌, Option, Some, None}
+use Rattle.std.specs.Prelude.{Result, Ok, Err, length, IsNone, IsSome}
+use Rattle.std.specs.List.{All}
 use Rattle.outside_ports.specs.Ports.{Files}
 use Rattle.outside_ports.specs.Fakes.{File}
-use Rattle.rv64_decode.specs.Area.{Area}
 use Rattle.elf_image.specs.declared.rules.ElfErr.{ElfErr}
 use Rattle.elf_image.specs.declared.image.Elf.{Elf}
 use Rattle.elf_image.specs.Reading.{reading_of}
-use Rattle.guest_memory.specs.Spans.{all_bytes}
-use Rattle.serial_run.specs.Serial.{State, start_of, ended, serial, executed_of}
-use Rattle.serial_run.specs.declared.machine.End.{End}
-use Rattle.serial_run.specs.declared.machine.End.TheVariants.{Exited as DidExit, Faulted as DidFault, Spent as DidSpend}
-use Rattle.serial_run.specs.declared.machine.End.TheVariants.{ReadFault as SourceFault, WriteFault as SinkFault}
 use Rattle.image_writer.specs.declared.image.Image.{Image}
 use Rattle.rewriter.specs.declared.rewriting.Rewritten.{Rewritten}
 use Rattle.rewriter.specs.declared.rewriting.RewriteErr.{RewriteErr}
-use Rattle.rewriter.specs.declared.rewriting.RewriteErr.TheVariants.{Elf as NotRead, OutOfMemory as NoRoom}
-use Rattle.rewriter.specs.Rewriting.{rewriting_of}
-use Rattle.rewriter.specs.Admission.{Admission, Admitted, Bad, Refused as IsRefused, Differs, admission_of}
+use Rattle.rewriter.specs.declared.rewriting.RewriteErr.TheVariants.{Elf as NotRead, TooManyWords as ManyWords}
+use Rattle.rewriter.specs.declared.rewriting.RewriteErr.TheVariants.{TooManyLoops as ManyLoops, CodeTooLong as LongCode}
+use Rattle.rewriter.specs.declared.rewriting.RewriteErr.TheVariants.{OutOfMemory as NoRoom}
+use Rattle.rewriter.specs.declared.admission.AdmitErr.{AdmitErr}
+use Rattle.rewriter.specs.declared.admission.AdmitErr.TheVariants.{BadMark as IsBad, Original, Altered as Differs}
+use Rattle.rewriter.specs.declared.admission.AdmitErr.TheVariants.{OutOfMemory as NoRoomToAdmit}
+use Rattle.rewriter.specs.Rewriting.{IsRewriting}
+use Rattle.rewriter.specs.Admission.{IsAdmission}
+use Rattle.serial_run.specs.Serial.{State, start_of, ended, serial, IsEnding}
 use Rattle.sample_maker.specs.declared.Kind.{Kind}
 use Rattle.sample_maker.specs.Sample.{sample_bytes, limit}
 use Rattle.rewrite_cli.specs.Words.{Command, Run, Rewrite, Loops, Make}
 use Rattle.rewrite_cli.specs.Listing.{Listing, Lines, TooMany, TooManyChosen, AreLines, IsListing}
-use Rattle.rewrite_cli.specs.Status.{is_ending}
-use Rattle.rewrite_cli.specs.Counts.{of_steps, of_sample, no_counts}
+use Rattle.walks.specs.Walk.{Point, IsPoint}
+use Rattle.walks.specs.Laws.{shown}
+use Rattle.rewrite_cli.specs.Counts.{Tally, OfRun, OfImage, OfSample, OfNothing}
 use Rattle.rewrite_cli.specs.Refusals.{refusal_of}
+use Rattle.rewrite_cli.specs.Runs.{View, view_of, status_of, dump_of, EndsAfter}
+use Rattle.rewrite_cli.specs.Status.{is_ending}
 use Rattle.rewrite_cli.specs.Texts.{report_of}
-use Rattle.rewrite_cli.specs.declared.counts.Counts.{Counts}
-use Rattle.rewrite_cli.specs.declared.counts.Counts.TheVariants.{Image as Adds}
-use Rattle.rewrite_cli.specs.declared.status.Reason.TheVariants.{LoadTooLong, TooManyWords, TooManyLoops, BadMark, Altered, TooLarge}
+use Rattle.rewrite_cli.specs.declared.status.Reason.TheVariants.{LoadTooLong, TooManyWords, TooManyLoops, CodeTooLong}
+use Rattle.rewrite_cli.specs.declared.status.Reason.TheVariants.{BadMark, Altered, TooLarge}
 use Rattle.rewrite_cli.specs.declared.status.Status.{Status}
-use Rattle.rewrite_cli.specs.declared.status.Status.TheVariants.{Done, Exited, Faulted, Spent, Usage, Refused}
-use Rattle.rewrite_cli.specs.declared.status.Status.TheVariants.{ReadFault, WriteFault, OutOfMemory}
+use Rattle.rewrite_cli.specs.declared.status.Status.TheVariants.{Done, Spent, Usage, Refused, OutOfMemory}
 
 pub record Effect : Type 0 where
   pub status : Status
@@ -47,7 +49,7 @@ pub record Effect : Type 0 where
 -- the answer, and nothing else is done
 abbrev pub only : Status → List ℕ → Effect
 only status input =
-    record { status = status; output = []; rest = input; report = report_of no_counts status; saved = [] }
+    record { status = status; output = []; rest = input; report = report_of OfNothing status; saved = [] }
 
 -- ---- files
 
@@ -65,58 +67,89 @@ OfFile limit Act input (Some bytes) effect =
 -- the answer to an executable that is not rewritten
 abbrev pub status_of_refusal : RewriteErr → Status
 status_of_refusal (NotRead e) = refusal_of e
+status_of_refusal (ManyWords count) = Refused (TooManyWords count)
+status_of_refusal (ManyLoops count) = Refused (TooManyLoops count)
+status_of_refusal (LongCode words) = Refused (CodeTooLong words)
 status_of_refusal NoRoom = OutOfMemory
+
+-- the answer to a file that is not admitted
+abbrev pub status_of_admission : AdmitErr → Status
+status_of_admission IsBad = Refused BadMark
+status_of_admission (Original why) = status_of_refusal why
+status_of_admission (Differs offset) = Refused (Altered offset)
+status_of_admission NoRoomToAdmit = OutOfMemory
 
 -- ---- a run
 
--- the answer to the ending of a run
-abbrev pub status_of_end : End → Status
-status_of_end (DidExit code) = Exited code
-status_of_end (DidFault kind pc addr) = Faulted kind pc addr
-status_of_end DidSpend = Spent
-status_of_end SourceFault = ReadFault
-status_of_end SinkFault = WriteFault
-
-abbrev pub status_of : Option End → Status
-status_of None = Spent
-status_of (Some end) = status_of_end end
-
--- what is saved of the memory after a run: the bytes of all areas, in address order, where a name is
--- given and the run has come to an ending
-abbrev pub dump_of : Option (List ℕ) → Status → List Area → List File
-dump_of None status memory = []
-dump_of (Some name) status memory = if is_ending status then (name, all_bytes memory) ∷ [] else []
-
--- a run from this state
-abbrev pub ran : ℕ → Option (List ℕ) → State → Effect
-ran fuel dump s =
-    let t = serial fuel s in
+-- a run of at most so many steps, of which this is seen
+abbrev pub effect_of : ℕ → Option (List ℕ) → (ℕ → View) → Effect
+effect_of fuel dump view =
+    let v = view fuel in
     record {
-      status = status_of (ended t);
-      output = t.output;
-      rest = t.rest;
-      report = report_of (of_steps (executed_of fuel s)) (status_of (ended t));
-      saved = dump_of dump (status_of (ended t)) t.machine.memory;
+      status = status_of v.ended;
+      output = v.output;
+      rest = v.rest;
+      report = report_of v.tally (status_of v.ended);
+      saved = dump_of dump (status_of v.ended) v.memory;
     }
 
--- what is done with an image, where a file is one
-abbrev pub OfImage : (Image → Effect → Type 0) → List ℕ → Admission → Effect → Type 0
-OfImage Act input (Admitted image) effect = Act image effect
-OfImage Act input Bad effect = effect ≡ only (Refused BadMark) input
-OfImage Act input (IsRefused why) effect = effect ≡ only (refusal_of why) input
-OfImage Act input (Differs offset) effect = effect ≡ only (Refused (Altered offset)) input
+-- that of an image
+abbrev pub ran : ℕ → Option (List ℕ) → Image → List ℕ → Effect
+ran fuel dump image input = effect_of fuel dump (view_of image input)
 
-abbrev pub Runs : ℕ → Option (List ℕ) → List ℕ → Image → Effect → Type 0
-Runs fuel dump input image effect = effect ≡ ran fuel dump (start_of image.elf input)
+-- the effect is that of an executable's run whose ending is at this state
+pub record HasEnding (dump : Option (List ℕ)) (t : State) (effect : Effect) : Type 0 where
+  pub status : effect.status ≡ status_of (ended t)
+  pub output : effect.output ≡ t.output
+  pub rest : effect.rest ≡ t.rest
+  pub saved : effect.saved ≡ dump_of dump (status_of (ended t)) t.machine.memory
+
+-- it has written and left unread what the executable has at this state, and has an ending only where the state has it
+pub record IsAlong (dump : Option (List ℕ)) (t : State) (effect : Effect) : Type 0 where
+  pub output : effect.output ≡ t.output
+  pub rest : effect.rest ≡ t.rest
+  pub ending : is_ending effect.status ≡ true → IsSome (ended t) × HasEnding dump t effect
+
+-- the executable ends at this state, where the walk over its run is at this point: the run ends after as many steps as
+-- the walk has counted, and not before. If there is fuel for them the effect has this ending, and reports what the walk
+-- has counted; otherwise the run is spent
+pub record EndsAt (fuel : ℕ) (dump : Option (List ℕ)) (view : ℕ → View) (t : State) (w : Point) (effect : Effect)
+    : Type 0 where
+  pub steps : EndsAfter view w.events
+  pub within : w.events ≤ fuel → HasEnding dump t effect
+  pub counts : w.events ≤ fuel → fuel < 2 ^ 64
+      → effect.report ≡ report_of (OfRun (map shown w.loops) (w.events ∷ []) w.events) effect.status
+  pub beyond : fuel < w.events → effect.status ≡ Spent
+
+-- an image does what its executable does: it ends where that ends, and has always written and left unread what the
+-- executable has after some instructions
+pub record RunsAs (fuel : ℕ) (dump : Option (List ℕ)) (input : List ℕ) (image : Image) (effect : Effect) : Type 0 where
+  pub ends : (n : ℕ) (t : State) → IsEnding (start_of image.elf input) n t
+      → (k : ℕ) × (w : Point) × IsPoint image input k w × (w.index ≡ n)
+      × EndsAt fuel dump (view_of image input) t w effect
+  pub along : (n : ℕ) × IsAlong dump (serial n (start_of image.elf input)) effect
+
+-- what is done with a file that is to be run, by its admission
+abbrev pub OfAdmission : (Image → Effect → Type 0) → List ℕ → Result Image AdmitErr → Effect → Type 0
+OfAdmission Act input (Ok image) effect = Act image effect
+OfAdmission Act input (Err why) effect = effect ≡ only (status_of_admission why) input
+
+-- an image does what its executable does, for an input of bytes
+pub record Runs (fuel : ℕ) (dump : Option (List ℕ)) (input : List ℕ) (image : Image) (effect : Effect) : Type 0 where
+  pub is : effect ≡ ran fuel dump image input
+  pub as_executable : All (λ (b : ℕ). b < 256) input → RunsAs fuel dump input image effect
 
 -- a run of the file with these bytes
-abbrev pub RunsFile : ℕ → Option (List ℕ) → List ℕ → List ℕ → Effect → Type 0
-RunsFile fuel dump input bytes effect = OfImage (Runs fuel dump input) input (admission_of bytes) effect
+pub record RunsFile (fuel : ℕ) (dump : Option (List ℕ)) (input bytes : List ℕ) (effect : Effect) : Type 0 where
+  pub admission : Result Image AdmitErr
+  pub is : IsAdmission bytes admission
+  pub found : admission ≢ Err NoRoomToAdmit
+  pub does : OfAdmission (Runs fuel dump input) input admission effect
 
 -- ---- rewriting
 
-abbrev pub counts_of : Rewritten → Counts
-counts_of made = Adds made.entries made.words
+abbrev pub counts_of : Rewritten → Tally
+counts_of made = OfImage made.entries made.words
 
 -- an image, and where it is saved
 abbrev pub image_saved : List ℕ → List ℕ → Rewritten → Effect
@@ -129,13 +162,16 @@ image_saved new input made =
       saved = (new, made.bytes) ∷ [];
     }
 
-abbrev pub OfRewriting : List ℕ → List ℕ → Result Rewritten ElfErr → Effect → Type 0
-OfRewriting new input (Ok made) effect = effect ≡ image_saved new input made
-OfRewriting new input (Err e) effect = effect ≡ only (refusal_of e) input
+abbrev pub of_rewriting : List ℕ → List ℕ → Result Rewritten RewriteErr → Effect
+of_rewriting new input (Ok made) = image_saved new input made
+of_rewriting new input (Err why) = only (status_of_refusal why) input
 
 -- the image of the file with these bytes, saved under a name
-abbrev pub RewritesFile : List ℕ → List ℕ → List ℕ → Effect → Type 0
-RewritesFile new input bytes effect = OfRewriting new input (rewriting_of bytes) effect
+pub record RewritesFile (new input bytes : List ℕ) (effect : Effect) : Type 0 where
+  pub rewriting : Result Rewritten RewriteErr
+  pub is : IsRewriting bytes rewriting
+  pub found : rewriting ≢ Err NoRoom
+  pub does : effect ≡ of_rewriting new input rewriting
 
 -- ---- lists of loops
 
@@ -161,7 +197,7 @@ sample_saved kind size new input =
       status = Done;
       output = [];
       rest = input;
-      report = report_of (of_sample (length (sample_bytes kind size))) Done;
+      report = report_of (OfSample (length (sample_bytes kind size))) Done;
       saved = (new, sample_bytes kind size) ∷ [];
     }
 
@@ -190,7 +226,7 @@ pub record HoldsImage (content : Option (List ℕ)) (image : Image) : Type 0 whe
   pub bytes : List ℕ
   pub are : content ≡ Some bytes
   pub within : length bytes ≤ load_limit
-  pub admitted : admission_of bytes ≡ Admitted image
+  pub admitted : IsAdmission bytes (Ok image)
 
 -- the content is there, is not too long, and holds an executable whose loops have these lines
 pub record HoldsLines (content : Option (List ℕ)) (lines : List ℕ) : Type 0 where
@@ -218,19 +254,19 @@ pub record Moment : Type 0 where
   pub more : List ℕ
   pub rest : List ℕ
 
--- a moment of a run, in one of its instructions: it has not ended before that
-pub record IsMomentOf (fuel : ℕ) (s : State) (moment : Moment) : Type 0 where
+-- a moment of a run, in one of its steps: it has not ended before that
+pub record IsMomentOf (fuel : ℕ) (view : ℕ → View) (moment : Moment) : Type 0 where
   pub count : ℕ
   pub below : count < fuel
-  pub running : IsNone (ended (serial count s))
-  pub output : moment.output ≡ (serial count s).output
-  pub more : (serial (suc count) s).output ≡ moment.output ++ moment.more
-  pub rest : moment.rest ≡ (serial count s).rest
+  pub running : IsNone (view count).ended
+  pub output : moment.output ≡ (view count).output
+  pub more : (view (suc count)).output ≡ moment.output ++ moment.more
+  pub rest : moment.rest ≡ (view count).rest
 
 -- the command comes to this moment
 abbrev pub Passes : Option Command → Files → List ℕ → Moment → Type 0
 Passes (Some (Run file fuel dump)) files input moment =
-    (image : Image) × (HoldsImage (files file) image × IsMomentOf fuel (start_of image.elf input) moment)
+    (image : Image) × (HoldsImage (files file) image × IsMomentOf fuel (view_of image input) moment)
 Passes (Some (Loops file)) files input moment =
     HoldsLines (files file) moment.more × (moment.output ≡ []) × (moment.rest ≡ input)
 Passes _ files input moment = ⊥

@@ -6,5 +6,7 @@ pub mod Refusals
 pub mod Texts
 pub mod Listing
 pub mod Needs
+pub mod Outside
+pub mod Runs
 pub mod Effect
 pub mod Answer

@@ -4,7 +4,7 @@ use Rattle.std.specs.Option.{option_copied}
 use Rattle.outside_ports.specs.Fakes.{File}
 use Rattle.rewrite_cli.specs.declared.dumping.Dump.{Dump}
 use Rattle.rewrite_cli.specs.declared.reply.Reply.{Reply}
-use Rattle.rewrite_cli.specs.Counts.{no_counts}
+use Rattle.rewrite_cli.specs.Counts.{OfNothing}
 use Rattle.rewrite_cli.specs.Status.{is_from_outside}
 use Rattle.rewrite_cli.specs.Texts.{report_of}
 use Rattle.rewrite_cli.specs.declared.words.Command.{Command}
@@ -25,4 +25,4 @@ dump_shown (Some dump) = (dump.name.now, dump.bytes.items) ∷ []
 
 -- the report that a reply is written with
 abbrev pub text_of : Reply → List ℕ
-text_of reply = if is_from_outside reply.status then report_of no_counts reply.status else string_bytes reply.text
+text_of reply = if is_from_outside reply.status then report_of OfNothing reply.status else string_bytes reply.text

@@ -8,7 +8,7 @@ use Rattle.rewrite_cli.specs.declared.status.Reason.TheVariants.{ByteOrder, Vers
 use Rattle.rewrite_cli.specs.declared.status.Reason.TheVariants.{HeaderSize, TooManyHeaders, Marked, SegmentSize}
 use Rattle.rewrite_cli.specs.declared.status.Reason.TheVariants.{SegmentCut, Dynamic, WritableCode, Range}
 use Rattle.rewrite_cli.specs.declared.status.Reason.TheVariants.{TooMuchMemory, Overlap, EntryOutside, TooManyWords}
-use Rattle.rewrite_cli.specs.declared.status.Reason.TheVariants.{TooManyLoops, BadMark, Altered, TooLarge}
+use Rattle.rewrite_cli.specs.declared.status.Reason.TheVariants.{TooManyLoops, CodeTooLong, BadMark, Altered, TooLarge}
 use Rattle.rewrite_cli.specs.declared.status.Status.{Status}
 use Rattle.rewrite_cli.specs.declared.status.Status.TheVariants.{Refused, OutOfMemory}
 
@@ -61,6 +61,7 @@ reason_name (Overlap first second) = codes "overlap"
 reason_name (EntryOutside entry) = codes "entry-outside"
 reason_name (TooManyWords count) = codes "too-many-words"
 reason_name (TooManyLoops count) = codes "too-many-loops"
+reason_name (CodeTooLong words) = codes "code-too-long"
 reason_name BadMark = codes "bad-mark"
 reason_name (Altered offset) = codes "altered"
 reason_name (TooLarge n) = codes "too-large"
@@ -90,6 +91,7 @@ reason_fields (Overlap first second) = (Some first, Some second)
 reason_fields (EntryOutside entry) = (Some entry, None)
 reason_fields (TooManyWords count) = (Some count, None)
 reason_fields (TooManyLoops count) = (Some count, None)
+reason_fields (CodeTooLong words) = (Some words, None)
 reason_fields BadMark = (None, None)
 reason_fields (Altered offset) = (Some offset, None)
 reason_fields (TooLarge n) = (Some n, None)

@@ -1,68 +1,41 @@
 -- The lines of a report.
-use Rattle.std.specs.Prelude.{ℕ, ◌-◌, ◌^◌, false, List, [], ◌∷◌, ◌++◌, codes, decimal}
-use Rattle.std.specs.Fmt.{digits, padded_integral, format_spec}
-use Rattle.rv64_decode.specs.declared.memory.MemFault.{MemFault}
-use Rattle.rv64_decode.specs.declared.memory.MemFault.TheVariants.{Misaligned, Unmapped, Denied}
-use Rattle.rv64_decode.specs.declared.outcome.Fault.{Fault}
-use Rattle.rv64_decode.specs.declared.outcome.Fault.TheVariants.{Fetch, Illegal, Break, Target, Load as LoadFault}
-use Rattle.rv64_decode.specs.declared.outcome.Fault.TheVariants.{Store as StoreRefused}
+use Rattle.std.specs.Prelude.{ℕ, List, [], ◌++◌, codes, decimal}
+use Rattle.serial_run.specs.declared.machine.End.{End}
+use Rattle.serial_run.specs.declared.machine.End.TheVariants.{Exited as DidExit, Faulted as DidFault, Spent as DidSpend}
+use Rattle.serial_run.specs.declared.machine.End.TheVariants.{ReadFault as SourceFault, WriteFault as SinkFault}
+use Rattle.report_text.specs.RunLines.{line, run_lines}
 use Rattle.rewrite_cli.specs.Refusals.{reason_text}
+use Rattle.rewrite_cli.specs.Counts.{Tally, OfRun, OfImage, OfSample}
 use Rattle.rewrite_cli.specs.declared.status.Status.{Status}
-use Rattle.rewrite_cli.specs.Counts.{steps_of}
-use Rattle.rewrite_cli.specs.declared.counts.Counts.{Counts}
-use Rattle.rewrite_cli.specs.declared.counts.Counts.TheVariants.{Image, Sample}
 use Rattle.rewrite_cli.specs.declared.status.Status.TheVariants.{Done, Exited, Faulted, Spent, Usage, Refused}
 use Rattle.rewrite_cli.specs.declared.status.Status.TheVariants.{StoreFault, ReadFault, WriteFault, OutOfMemory}
-
--- a line
-abbrev pub line : List ℕ → List ℕ
-line text = text ++ 10 ∷ []
-
--- a word as 16 hexadecimal digits: what `{:016x}` writes
-abbrev pub hex16 : ℕ → List ℕ
-hex16 n = padded_integral (format_spec 32 0 4 16 (2 ^ 64 - 1)) false [] (digits 16 false n)
-
-abbrev pub why_text : MemFault → List ℕ
-why_text Misaligned = codes "misaligned"
-why_text Unmapped = codes "unmapped"
-why_text Denied = codes "denied"
-
--- the kind of a fault
-abbrev pub fault_text : Fault → List ℕ
-fault_text Fetch = codes "fetch"
-fault_text Illegal = codes "illegal"
-fault_text Break = codes "break"
-fault_text Target = codes "target"
-fault_text (LoadFault why) = codes "load-" ++ why_text why
-fault_text (StoreRefused why) = codes "store-" ++ why_text why
 
 abbrev pub usage_text : List ℕ
 usage_text =
     codes "usage: list FILE | rewrite FILE NEW | run FILE HARTS [FUEL [DUMP]] | replay FILE HARTS ORDER"
     ++ codes " | make KIND N NEW"
 
--- the counts of a run by one hart
-abbrev pub count_lines : ℕ → List ℕ
-count_lines steps = line (codes "hart 0 instructions " ++ decimal steps) ++ line (codes "steps " ++ decimal steps)
+-- the report of a run with this ending
+abbrev pub run_text : Tally → End → List ℕ
+run_text (OfRun loops harts steps) end = run_lines loops harts steps end
+run_text _ end = run_lines [] [] 0 end
 
 -- what is said of what a command has made
-abbrev pub done_text : Counts → List ℕ
-done_text (Image entries words) = line (codes "rewritten entries " ++
+abbrev pub done_text : Tally → List ℕ
+done_text (OfImage entries words) = line (codes "rewritten entries " ++
     (decimal entries ++ (codes " words " ++ decimal words)))
-done_text (Sample bytes) = line (codes "made " ++ decimal bytes)
+done_text (OfSample bytes) = line (codes "made " ++ decimal bytes)
 done_text _ = []
 
 -- the report of an answer
-abbrev pub report_of : Counts → Status → List ℕ
-report_of counts Done = done_text counts
-report_of counts (Exited code) = count_lines (steps_of counts) ++ line (codes "exit " ++ decimal code)
-report_of counts (Faulted kind pc addr) =
-    count_lines (steps_of counts)
-    ++ line (codes "fault " ++ (fault_text kind ++ (codes " pc 0x" ++ (hex16 pc ++ (codes " addr 0x" ++ hex16 addr)))))
-report_of counts Spent = line (codes "spent")
-report_of counts Usage = line usage_text
-report_of counts (Refused why) = line (codes "refused " ++ reason_text why)
-report_of counts StoreFault = line (codes "store-fault")
-report_of counts ReadFault = line (codes "read-fault")
-report_of counts WriteFault = []
-report_of counts OutOfMemory = line (codes "out-of-memory")
+abbrev pub report_of : Tally → Status → List ℕ
+report_of tally Done = done_text tally
+report_of tally (Exited code) = run_text tally (DidExit code)
+report_of tally (Faulted kind pc addr) = run_text tally (DidFault kind pc addr)
+report_of tally Spent = run_text tally DidSpend
+report_of tally Usage = line usage_text
+report_of tally (Refused why) = line (codes "refused " ++ reason_text why)
+report_of tally StoreFault = line (codes "store-fault")
+report_of tally ReadFault = run_text tally SourceFault
+report_of tally WriteFault = run_text tally SinkFault
+report_of tally OutOfMemory = line (codes "out-of-memory")

@@ -5,9 +5,10 @@ ghost use Rattle.rewrite_cli.specs.Reading.{command_shown, text_of};
 ghost use Rattle.rewrite_cli.specs.Needs.{needs_of};
 ghost use Rattle.rewrite_cli.specs.Status.{comes_first, keeps_files};
 ghost use Rattle.rewrite_cli.specs.Effect.{StartsRun};
-ghost use Rattle.rewrite_cli.specs.Answer.{IsAnswered, IsDone, LeavesAlone, outside, stored, stream};
+ghost use Rattle.rewrite_cli.specs.Outside.{outside, stored, stream};
+ghost use Rattle.rewrite_cli.specs.Answer.{IsAnswered, IsDone, LeavesAlone};
 
-use crate::counts::NO_COUNTS;
+use crate::counts::Counts;
 use crate::listing::list_file;
 use crate::making::make_file;
 use crate::reply::{Reply, reply_with};
@@ -43,7 +44,7 @@ fn perform<S: Store, I: Source, O: Sink>(
         store.old store.new input.old input.new out.old out.new }
 {
     match command {
-        Command::Unknown => reply_with(alloc, Status::Usage, &NO_COUNTS),
+        Command::Unknown => reply_with(alloc, Status::Usage, &Counts::Nothing),
         Command::Loops { file } => list_file(alloc, file, store, out),
         Command::Rewrite { file, new } => rewrite_file(alloc, file, new, store),
         Command::Make { kind, size, new } => make_file(alloc, kind, size, new, store),

@@ -1,11 +1,14 @@
-ghost use Rattle.std.specs.Prelude.{◌≡◌};
-ghost use Rattle.rewrite_cli.specs.Counts.{steps_of};
+ghost use Rattle.std.specs.Prelude.{◌≡◌, IfOk};
+ghost use Rattle.rewrite_cli.specs.Counts.{tally_of, of_steps};
+
+use hart_core::Counts as RunCounts;
+use std::alloc::{AllocError, Global};
 
 /// What a report counts.
-#[derive(Clone, Copy, PartialEq, Eq, Debug)]
+#[derive(Drop)]
 pub enum Counts {
-    /// The instructions that a run has executed.
-    Steps(u64),
+    /// What is counted of a run.
+    Run(RunCounts),
     /// What an image adds to its original: the loops that are divided, and the words of code.
     Image { entries: u32, words: u32 },
     /// The bytes of a sample.
@@ -14,17 +17,17 @@ pub enum Counts {
     Nothing,
 }
 
-/// Nothing is counted.
-pub const NO_COUNTS: Counts = Counts::Nothing;
-
 impl Counts {
-    /// The number of instructions, which is 0 where none are counted.
-    pub fn steps(&self) -> u64
-        ensures { result ≡ steps_of self.now }
+    /// The counts of a run without entries by one hart, which has executed so many instructions.
+    pub fn of_steps(alloc: Global, steps: u64) -> Result<Counts, AllocError>
+        ensures { IfOk result (λ counts. tally_of counts ≡ of_steps steps) }
     {
-        match *self {
-            Counts::Steps(steps) => steps,
-            _ => 0,
-        }
+        let mut harts = Vec::new(alloc);
+        harts.push(steps)?;
+        Ok(Counts::Run(RunCounts {
+            loops: Vec::new(alloc),
+            harts,
+            steps,
+        }))
     }
 }

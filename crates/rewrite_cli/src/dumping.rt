@@ -1,11 +1,11 @@
 ghost use Rattle.std.specs.Prelude.{◌≡◌, ◌≢◌, ◌≤◌, ◌⊎◌, Some, IfOk, IsSome, IsNone, true, false};
 ghost use Rattle.std.specs.Option.{option_copied};
 ghost use Rattle.outside_ports.specs.Ports.{Files, Rose};
-ghost use Rattle.rewrite_cli.specs.Counts.{of_steps};
+ghost use Rattle.rewrite_cli.specs.Counts.{tally_of};
 ghost use Rattle.rewrite_cli.specs.Status.{is_from_outside, is_ending, keeps_files};
 ghost use Rattle.rewrite_cli.specs.Texts.{report_of};
 ghost use Rattle.rewrite_cli.specs.Needs.{SameBut, names_of};
-ghost use Rattle.rewrite_cli.specs.Effect.{dump_of};
+ghost use Rattle.rewrite_cli.specs.Runs.{dump_of};
 ghost use Rattle.rewrite_cli.specs.Reading.{dump_shown, text_of};
 ghost use Rattle.rewrite_cli.specs.Answer.{AreSaved, StayBut};
 
@@ -49,12 +49,12 @@ fn dump_under<'a>(
     }
 }
 
-/// The reply of a run that has given this answer after so many instructions. Its memory is saved first
+/// The reply of a run that has given this answer, with these counts. Its memory is saved first
 /// where a name is given and the run has come to an ending.
 pub fn save_memory<S: Store>(
     alloc: Global,
     status: Status,
-    steps: u64,
+    counts: &Counts,
     name: Option<&str>,
     memory: &Memory,
     store: &mut S,
@@ -62,7 +62,7 @@ pub fn save_memory<S: Store>(
     requires { is_from_outside status ≡ false }
     ensures kind { (result.status ≡ status) ⊎ ((result.status ≡ Status.StoreFault)
         ⊎ (result.status ≡ Status.OutOfMemory)) }
-    ensures text { text_of result ≡ report_of (of_steps steps) result.status }
+    ensures text { text_of result ≡ report_of (tally_of counts.now) result.status }
     ensures saved { (m : Files) → S.files store.old ≡ Some m → result.status ≡ status
         → AreSaved m (S.files store.new) (dump_of (option_copied name.entry) status memory.now) }
     ensures stays { (m : Files) → S.files store.old ≡ Some m → is_from_outside result.status ≡ true
@@ -77,15 +77,14 @@ pub fn save_memory<S: Store>(
     ensures unsaved { IsNone name.entry → result.status ≢ Status.StoreFault }
     ensures never_falls { S.faults store.old ≤ S.faults store.new }
 {
-    let counts = Counts::Steps(steps);
     let Ok(dump) = dump_under(alloc, name, &status, memory) else {
         return Reply::from_outside(alloc, Status::OutOfMemory);
     };
     match &dump {
         Some(dump) => {
             let bytes = dump.bytes.as_slice();
-            save_and_reply(alloc, status, &counts, dump.name, bytes, store)
+            save_and_reply(alloc, status, counts, dump.name, bytes, store)
         }
-        None => reply_with(alloc, status, &counts),
+        None => reply_with(alloc, status, counts),
     }
 }

@@ -4,79 +4,30 @@ ghost use Rattle.outside_ports.specs.Ports.{Files, Rose, Lacks};
 ghost use Rattle.elf_image.specs.Layout.{IsLoadable};
 ghost use Rattle.elf_image.specs.Reading.{reading_of};
 ghost use Rattle.elf_image.specs.declared.image.Elf.{Elf as Shown};
-ghost use Rattle.loop_data.specs.Graphs.{IsGraph};
-ghost use Rattle.loop_data.specs.Loops.{AreLoops};
-ghost use Rattle.loop_choice.specs.Judging.{IsOneOfLoops};
+ghost use Rattle.loop_division.specs.LoopVerdicts.{AreVerdicts};
 ghost use Rattle.rewrite_cli.specs.Status.{is_from_outside, is_refusal, comes_first};
 ghost use Rattle.rewrite_cli.specs.Words.{Loops};
 ghost use Rattle.rewrite_cli.specs.Reading.{text_of};
-ghost use Rattle.rewrite_cli.specs.Listing.{Listing, TooMany, IsJudgedAs, AreJudgedAs, AreVerdicts, AreLines, IsListing};
+ghost use Rattle.rewrite_cli.specs.Listing.{Listing, TooMany, AreLines, IsListing};
 ghost use Rattle.rewrite_cli.specs.Listing.{is_among, lines_of};
 ghost use Rattle.rewrite_cli.specs.Effect.{Does, ListsFile, HoldsLines, only, listed};
-ghost use Rattle.rewrite_cli.specs.Answer.{IsDone, Stream, outside, stored, stream};
+ghost use Rattle.rewrite_cli.specs.Outside.{Stream, outside, stored, stream};
+ghost use Rattle.rewrite_cli.specs.Answer.{IsDone};
 
-use crate::counts::NO_COUNTS;
+use crate::counts::Counts;
 use crate::loading::load;
 use crate::refusals::refusal_from;
 use crate::reply::{Reply, reply_with};
 use crate::report::write_all;
 use crate::status::{Reason, Status};
 use elf_image::{Elf, read_elf};
-use flow_recovery::laws::{reached_words, starts};
-use flow_recovery::{FlowErr, recover};
-use loop_choice::{ChooseErr, Judged, choose, judge};
-use loop_data::{Graph, LoopShape};
-use loop_shapes::loops;
+use flow_recovery::FlowErr;
+use loop_choice::{ChooseErr, Judged, choose};
+use loop_division::laws::verdicts_are_in_order;
+use loop_division::{LoopVerdicts, judge_loops};
 use outside_ports::{Sink, Store};
 use report_text::loop_line;
 use std::alloc::{AllocError, Global};
-
-// The verdict of a loop. A plan of how its turns are divided is let go.
-fn judged_as(
-    alloc: Global,
-    graph: &Graph,
-    elf: &Elf,
-    shape: &LoopShape,
-) -> Result<Judged, AllocError>
-    requires loadable { IsLoadable elf.now }
-    requires graph { IsGraph elf.now graph.now }
-    requires shape { IsOneOfLoops graph.now shape.now }
-    ensures { IfOk result (IsJudgedAs graph.now shape.now) }
-{
-    let judged = judge(alloc, graph, elf, shape)?;
-    let Judged {
-        header,
-        body,
-        verdict,
-        plan: _,
-    } = judged;
-    Ok(Judged {
-        header,
-        body,
-        verdict,
-        plan: None,
-    })
-}
-
-// The verdicts of all loops.
-fn judge_all(
-    alloc: Global,
-    graph: &Graph,
-    elf: &Elf,
-    shapes: &[LoopShape],
-) -> Result<Vec<Judged>, AllocError>
-    requires loadable { IsLoadable elf.now }
-    requires graph { IsGraph elf.now graph.now }
-    requires shapes { AreLoops graph.now shapes.now }
-    ensures { IfOk result (λ v. AreJudgedAs graph.now shapes.now v.items) }
-{
-    let mut all = Vec::new(alloc);
-    for shape in shapes {
-        let judged = judged_as(alloc, graph, elf, shape)?;
-        all.push(judged)?;
-    }
-    Ok(all)
-}
 
 // Whether a place is one of these.
 fn is_among(places: &[u32], place: u32) -> bool
@@ -103,30 +54,21 @@ fn lines_from(alloc: Global, all: &[Judged], chosen: &[u32]) -> Result<String, A
     Ok(text)
 }
 
-// The verdicts of the loops of an executable, by header.
-fn verdicts_in(alloc: Global, elf: &Elf) -> Result<Vec<Judged>, Status>
+// The verdicts of the loops of an executable.
+fn verdicts_in(alloc: Global, elf: &Elf) -> Result<LoopVerdicts, Status>
     requires { IsLoadable elf.now }
-    ensures made { IfOk result (λ v. AreVerdicts elf.now v.items) }
+    ensures made { IfOk result (λ v. AreVerdicts elf.now v.graph v.shapes.items v.all.items) }
     ensures refused { IfErr result (λ e. is_from_outside e ≡ false → (count : ℕ)
         × (e ≡ Status.Refused (Reason.TooManyWords count))
         × IsListing elf.now (TooMany count)) }
     ensures kind { IfErr result (λ e. (is_refusal e ≡ true) × (e ≢ Status.StoreFault)) }
 {
-    reached_words();
-    starts();
-    let graph = match recover(alloc, elf) {
-        Ok(graph) => graph,
+    match judge_loops(alloc, elf) {
+        Ok(verdicts) => Ok(verdicts),
         Err(FlowErr::TooManyWords { count }) => {
-            return Err(Status::Refused(Reason::TooManyWords { count }));
+            Err(Status::Refused(Reason::TooManyWords { count }))
         }
-        Err(FlowErr::OutOfMemory) => return Err(Status::OutOfMemory),
-    };
-    let Ok(shapes) = loops(alloc, &graph) else {
-        return Err(Status::OutOfMemory);
-    };
-    match judge_all(alloc, &graph, elf, shapes.as_slice()) {
-        Ok(all) => Ok(all),
-        Err(_) => Err(Status::OutOfMemory),
+        Err(FlowErr::OutOfMemory) => Err(Status::OutOfMemory),
     }
 }
 
@@ -138,19 +80,20 @@ fn lines_in(alloc: Global, elf: &Elf) -> Result<String, Status>
         × IsListing elf.now listing × ((xs : List ℕ) → only e xs ≡ listed listing xs)) }
     ensures kind { IfErr result (λ e. (is_refusal e ≡ true) × (e ≢ Status.StoreFault)) }
 {
-    reached_words();
-    let all = match verdicts_in(alloc, elf) {
-        Ok(all) => all,
+    verdicts_are_in_order();
+    let verdicts = match verdicts_in(alloc, elf) {
+        Ok(verdicts) => verdicts,
         Err(status) => return Err(status),
     };
-    let chosen = match choose(alloc, all.as_slice()) {
+    let all = verdicts.all.as_slice();
+    let chosen = match choose(alloc, all) {
         Ok(chosen) => chosen,
         Err(ChooseErr::TooManyLoops { count }) => {
             return Err(Status::Refused(Reason::TooManyLoops { count }));
         }
         Err(ChooseErr::OutOfMemory) => return Err(Status::OutOfMemory),
     };
-    match lines_from(alloc, all.as_slice(), chosen.as_slice()) {
+    match lines_from(alloc, all, chosen.as_slice()) {
         Ok(text) => Ok(text),
         Err(_) => Err(Status::OutOfMemory),
     }
@@ -217,6 +160,6 @@ pub fn list_file<S: Store, O: Sink>(alloc: Global, file: &str, store: &mut S, ou
             Ok(()) => Reply::done(alloc),
             Err(_) => Reply::from_outside(alloc, Status::WriteFault),
         },
-        Err(status) => reply_with(alloc, status, &NO_COUNTS),
+        Err(status) => reply_with(alloc, status, &Counts::Nothing),
     }
 }

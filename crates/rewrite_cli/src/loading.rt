@@ -39,6 +39,9 @@ pub fn refusal(why: RewriteErr) -> Status
 {
     match why {
         RewriteErr::Elf(e) => refusal_from(e),
+        RewriteErr::TooManyWords { count } => Status::Refused(Reason::TooManyWords { count }),
+        RewriteErr::TooManyLoops { count } => Status::Refused(Reason::TooManyLoops { count }),
+        RewriteErr::CodeTooLong { words } => Status::Refused(Reason::CodeTooLong { words }),
         RewriteErr::OutOfMemory => Status::OutOfMemory,
     }
 }

@@ -1,14 +1,14 @@
 ghost use Rattle.std.specs.Prelude.{◌≡◌, ◌≢◌, ◌≤◌, ℕ, List, Some, true, false, IfOk, IfErr, length};
-ghost use Rattle.outside_ports.specs.Ports.{Files};
 ghost use Rattle.sample_maker.specs.Sample.{sample_bytes, limit};
-ghost use Rattle.rewrite_cli.specs.Counts.{of_sample};
+ghost use Rattle.rewrite_cli.specs.Counts.{OfSample, tally_of};
 ghost use Rattle.rewrite_cli.specs.Status.{is_from_outside, is_refusal, keeps_files};
 ghost use Rattle.rewrite_cli.specs.Words.{Make};
 ghost use Rattle.rewrite_cli.specs.Reading.{text_of};
 ghost use Rattle.rewrite_cli.specs.Effect.{MakesSample, only};
-ghost use Rattle.rewrite_cli.specs.Answer.{IsDone, Stream, outside, stored};
+ghost use Rattle.rewrite_cli.specs.Outside.{Stream, outside, stored};
+ghost use Rattle.rewrite_cli.specs.Answer.{IsDone};
 
-use crate::counts::{Counts, NO_COUNTS};
+use crate::counts::Counts;
 use crate::reply::{Reply, reply_with};
 use crate::saving::save_and_reply;
 use crate::status::{Reason, Status};
@@ -33,7 +33,7 @@ fn sample_of(alloc: Global, kind: Kind, size: u64) -> Result<Vec<u8>, Status>
 
 // What the report of a sample counts.
 fn counts_from(bytes: &[u8]) -> Counts
-    ensures { result ≡ of_sample (length bytes.now) }
+    ensures { tally_of result ≡ OfSample (length bytes.now) }
 {
     Counts::Sample {
         bytes: bytes.len() as u64,
@@ -58,6 +58,6 @@ pub fn make_file<S: Store>(alloc: Global, kind: Kind, size: u64, new: &str, stor
             let counts = counts_from(bytes);
             save_and_reply(alloc, Status::Done, &counts, new, bytes, store)
         }
-        Err(status) => reply_with(alloc, status, &NO_COUNTS),
+        Err(status) => reply_with(alloc, status, &Counts::Nothing),
     }
 }

@@ -1,5 +1,5 @@
 ghost use Rattle.std.specs.Prelude.{◌≡◌, ◌++◌, codes, string_bytes, IfOk, OnOk};
-ghost use Rattle.rewrite_cli.specs.Texts.{line};
+ghost use Rattle.report_text.specs.RunLines.{line};
 ghost use Rattle.rewrite_cli.specs.Refusals.{refusal_of, reason_name, reason_fields, field_text, reason_text};
 
 use crate::status::{Reason, Status};
@@ -63,6 +63,7 @@ fn name_of(why: Reason) -> &'static str
         Reason::EntryOutside { .. } => "entry-outside",
         Reason::TooManyWords { .. } => "too-many-words",
         Reason::TooManyLoops { .. } => "too-many-loops",
+        Reason::CodeTooLong { .. } => "code-too-long",
         Reason::BadMark => "bad-mark",
         Reason::Altered { .. } => "altered",
         Reason::TooLarge { .. } => "too-large",
@@ -97,6 +98,7 @@ fn fields_of(why: Reason) -> (Option<u128>, Option<u128>)
         Reason::EntryOutside { entry } => (Some(u128::from(entry)), None),
         Reason::TooManyWords { count } => (Some(u128::from(count)), None),
         Reason::TooManyLoops { count } => (Some(u128::from(count)), None),
+        Reason::CodeTooLong { words } => (Some(u128::from(words)), None),
         Reason::Altered { offset } => (Some(u128::from(offset)), None),
         Reason::TooLarge { n } => (Some(u128::from(n)), None),
     }

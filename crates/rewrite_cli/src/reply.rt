@@ -1,10 +1,10 @@
-ghost use Rattle.std.specs.Prelude.{◌≡◌, ◌≢◌, ◌⊎◌, ◌++◌, ℕ, List, [], Some, true, take};
-ghost use Rattle.outside_ports.specs.Ports.{Rose};
-ghost use Rattle.rewrite_cli.specs.Counts.{no_counts};
+ghost use Rattle.std.specs.Prelude.{◌≡◌, ◌⊎◌, [], true};
+ghost use Rattle.rewrite_cli.specs.Counts.{OfNothing, tally_of};
 ghost use Rattle.rewrite_cli.specs.Status.{is_from_outside};
 ghost use Rattle.rewrite_cli.specs.Texts.{report_of};
 ghost use Rattle.rewrite_cli.specs.Reading.{text_of};
-ghost use Rattle.rewrite_cli.specs.Answer.{IsGiven, stream};
+ghost use Rattle.rewrite_cli.specs.Outside.{stream};
+ghost use Rattle.rewrite_cli.specs.Answer.{IsGiven};
 
 use crate::counts::Counts;
 use crate::report::{report_text, write_all};
@@ -25,7 +25,7 @@ impl Reply {
     pub fn from_outside(alloc: Global, status: Status) -> Reply
         requires { is_from_outside status ≡ true }
         ensures status { result.status ≡ status }
-        ensures text { text_of result ≡ report_of no_counts status }
+        ensures text { text_of result ≡ report_of OfNothing status }
     {
         Reply {
             status,
@@ -74,7 +74,7 @@ impl Reply {
 /// The reply of this answer: `OutOfMemory` stands in its place where there is no memory for the report.
 pub fn reply_with(alloc: Global, status: Status, counts: &Counts) -> Reply
     ensures answer { (result.status ≡ status) ⊎ (result.status ≡ Status.OutOfMemory) }
-    ensures text { text_of result ≡ report_of counts.now result.status }
+    ensures text { text_of result ≡ report_of (tally_of counts.now) result.status }
 {
     match report_text(alloc, &status, counts) {
         Ok(text) => Reply { status, text },

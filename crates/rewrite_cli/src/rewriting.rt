@@ -1,13 +1,15 @@
 ghost use Rattle.std.specs.Prelude.{◌≡◌, ◌≢◌, ◌≤◌, ◌⊎◌, ℕ, List, Ok, Some, true, false, IfOk, IfErr};
 ghost use Rattle.outside_ports.specs.Ports.{Files, Rose, Lacks};
-ghost use Rattle.rewriter.specs.Rewriting.{rewriting_of};
+ghost use Rattle.rewriter.specs.Rewriting.{IsRewriting};
+ghost use Rattle.rewrite_cli.specs.Counts.{tally_of};
 ghost use Rattle.rewrite_cli.specs.Status.{is_from_outside, is_refusal, keeps_files};
 ghost use Rattle.rewrite_cli.specs.Words.{Rewrite};
 ghost use Rattle.rewrite_cli.specs.Reading.{text_of};
 ghost use Rattle.rewrite_cli.specs.Effect.{Does, RewritesFile, counts_of, image_saved, only};
-ghost use Rattle.rewrite_cli.specs.Answer.{IsDone, Stream, outside, stored};
+ghost use Rattle.rewrite_cli.specs.Outside.{Stream, outside, stored};
+ghost use Rattle.rewrite_cli.specs.Answer.{IsDone};
 
-use crate::counts::{Counts, NO_COUNTS};
+use crate::counts::Counts;
 use crate::loading::{load, refusal};
 use crate::reply::{Reply, reply_with};
 use crate::saving::save_and_reply;
@@ -18,7 +20,7 @@ use std::alloc::Global;
 
 // The image of the executable in these bytes.
 fn image_of(alloc: Global, bytes: &[u8]) -> Result<Rewritten, Status>
-    ensures made { IfOk result (λ made. rewriting_of bytes.now ≡ Ok made) }
+    ensures made { IfOk result (λ made. IsRewriting bytes.now (Ok made)) }
     ensures refused { IfErr result (λ e. is_from_outside e ≡ false → (new xs : List ℕ)
         → RewritesFile new xs bytes.now (only e xs)) }
     ensures kind { IfErr result (λ e. (is_refusal e ≡ true) × (e ≢ Status.StoreFault)) }
@@ -44,14 +46,17 @@ fn load_rewritten<S: Store>(alloc: Global, store: &mut S, file: &str) -> Result<
     ensures never_falls { S.faults store.old ≤ S.faults store.new }
 {
     match load(alloc, store, file) {
-        Ok(bytes) => image_of(alloc, bytes.as_slice()),
+        Ok(bytes) => match image_of(alloc, bytes.as_slice()) {
+            Ok(made) => Ok(made),
+            Err(status) => Err(status),
+        },
         Err(status) => Err(status),
     }
 }
 
 // What the report of an image counts.
 fn counts_from(made: &Rewritten) -> Counts
-    ensures { result ≡ counts_of made.now }
+    ensures { tally_of result ≡ counts_of made.now }
 {
     Counts::Image {
         entries: made.entries,
@@ -74,6 +79,6 @@ pub fn rewrite_file<S: Store>(alloc: Global, file: &str, new: &str, store: &mut 
             let image = made.bytes.as_slice();
             save_and_reply(alloc, Status::Done, &counts, new, image, store)
         }
-        Err(status) => reply_with(alloc, status, &NO_COUNTS),
+        Err(status) => reply_with(alloc, status, &Counts::Nothing),
     }
 }

@@ -1,5 +1,6 @@
 ghost use Rattle.std.specs.Prelude.{◌≡◌, ◌≤◌, ◌⊎◌, [], ◌∷◌, Some, true, false};
 ghost use Rattle.outside_ports.specs.Ports.{Files, Rose, SameButIn};
+ghost use Rattle.rewrite_cli.specs.Counts.{tally_of};
 ghost use Rattle.rewrite_cli.specs.Status.{is_from_outside};
 ghost use Rattle.rewrite_cli.specs.Texts.{report_of};
 ghost use Rattle.rewrite_cli.specs.Reading.{text_of};
@@ -24,7 +25,7 @@ pub fn save_and_reply<S: Store>(
     requires { is_from_outside status ≡ false }
     ensures kind { (result.status ≡ status) ⊎ ((result.status ≡ Status.StoreFault)
         ⊎ (result.status ≡ Status.OutOfMemory)) }
-    ensures text { text_of result ≡ report_of counts.now result.status }
+    ensures text { text_of result ≡ report_of (tally_of counts.now) result.status }
     ensures saved { (m : Files) → S.files store.old ≡ Some m → result.status ≡ status
         → AreSaved m (S.files store.new) ((name.now, bytes.now) ∷ []) }
     ensures stays { (m : Files) → S.files store.old ≡ Some m → is_from_outside result.status ≡ true

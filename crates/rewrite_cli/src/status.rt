@@ -53,6 +53,8 @@ pub enum Reason {
     TooManyWords { count: u64 },
     /// So many loops would be chosen to be divided, which is more than 1,024.
     TooManyLoops { count: u64 },
+    /// So many words would be added, which is more than 4,194,304.
+    CodeTooLong { words: u64 },
     /// The file is marked as an image, but not whole.
     BadMark,
     /// The file is not the image of its original part: the first byte that differs, or the shorter

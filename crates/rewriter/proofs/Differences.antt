@@ -1,16 +1,7 @@
 -- The first place at which two lists differ.
-use Rattle.std.proofs.Common.{◌≡◌, ◌≢◌, ◌==◌, ℕ, zero, suc, ◌<◌, min, List, [], ◌∷◌, length, get_or, Bool, true, false, Option, Some, None, Result, Ok, Err, refl, ap, sym, ◌∙◌, arith}
+use Rattle.std.proofs.Common.{◌≡◌, ◌≢◌, ◌==◌, ℕ, zero, suc, ◌<◌, min, List, [], ◌∷◌, length, get_or, Bool, true, false, Option, Some, None, refl, ap, ◌∙◌, arith}
 use Rattle.std.proofs.lemmas.Bool.Decides.{nat_tests}
-use Rattle.elf_image.specs.declared.image.Elf.{Elf}
-use Rattle.elf_image.specs.declared.rules.ElfErr.{ElfErr}
-use Rattle.elf_image.specs.Reading.{reading_of}
-use Rattle.image_writer.specs.declared.image.Entry.{Entry}
-use Rattle.image_writer.specs.declared.image.Image.{Image}
-use Rattle.image_writer.specs.declared.splitting.Split.{Split}
-use Rattle.image_writer.specs.declared.splitting.Split.TheVariants.{Parts}
-use Rattle.image_writer.specs.Split.{split_of}
-use Rattle.rewriter.specs.Rewriting.{rewritten_of}
-use Rattle.rewriter.specs.Admission.{first_difference, one_more, Admitted, unless_different, parts_by, split_by, admission_of}
+use Rattle.rewriter.specs.Admission.{first_difference, one_more}
 
 -- the items before a place are the same
 abbrev pub SameBefore : ℕ → List ℕ → List ℕ → Type 0
@@ -50,7 +41,7 @@ first_end (suc n) (x ∷ xs) (y ∷ ys) e same ne =
     heads_same x y xs ys (same 0 (omega arith))
     ∙ ap one_more (first_end n xs ys (omega arith) (λ j l. same (suc j) (omega arith)) (λ f. ne (omega arith)))
 
--- ---- an image that is admitted
+-- ---- no difference
 
 step_none : (x y : ℕ) (xs ys : List ℕ) (b : Bool) → (x == y) ≡ b → first_difference (x ∷ xs) (y ∷ ys) ≡ None → (x ≡ y) × (first_difference xs ys ≡ None)
 step_none x y xs ys true t e = (grind (arith, nat_tests), one_more_none (first_difference xs ys) (rw t at e))
@@ -71,19 +62,6 @@ none_same (x ∷ xs) (y ∷ ys) e =
     let head = both.0 in
     cc
 
-unless_admitted : (o : Option ℕ) (made image : Image) → unless_different o made ≡ Admitted image → (o ≡ None) × (made ≡ image)
-unless_admitted None made image e = (refl, cc)
-unless_admitted (Some k) made image e = cc
-
-parts_admitted : (bytes original : List ℕ) (entries : List Entry) (code : List ℕ) (r : Result Elf ElfErr) (image : Image)
-    → parts_by bytes original entries code r ≡ Admitted image → (rewritten_of original image.elf).bytes ≡ bytes
-parts_admitted bytes original entries code (Ok elf) image e =
-    let both = unless_admitted (first_difference (rewritten_of original elf).bytes bytes) _ image e in
-    let same : elf ≡ image.elf = ap (λ (i : Image). i.elf) both.1 in
-    ap (λ (v : Elf). (rewritten_of original v).bytes) (sym same) ∙ none_same (rewritten_of original elf).bytes bytes both.0
-parts_admitted bytes original entries code (Err why) image e = cc
-
-pub marked_admitted : (bytes : List ℕ) (image : Image) → admission_of bytes ≡ Admitted image → (original : List ℕ) (entries : List Entry) (code : List ℕ)
-    → split_of bytes ≡ Parts original entries code → (rewritten_of original image.elf).bytes ≡ bytes
-marked_admitted bytes image e original entries code split =
-    parts_admitted bytes original entries code (reading_of original) image (ap (λ (v : Split). split_by bytes v) (sym split) ∙ e)
+-- nor has a list one to itself
+pub same_none : (xs : List ℕ) → first_difference xs xs ≡ None
+same_none xs = first_none xs xs (λ k l. refl) refl

@@ -1,1 +1,4 @@
+mod Segments
 pub mod Differences
+mod OneAnswer
+mod Admitting

@@ -1,15 +1,15 @@
-ghost use Rattle.std.specs.Prelude.{◌≡◌, ◌<◌, ℕ, List, length, IfOk, IfErr};
-ghost use Rattle.rewriter.specs.Rewriting.{rewritten_of};
-ghost use Rattle.elf_image.specs.Layout.{IsLoadable};
-ghost use Rattle.elf_image.specs.Reading.{reading_of};
-ghost use Rattle.image_writer.specs.declared.image.Entry.{Entry};
+ghost use Rattle.std.specs.Prelude.{◌≡◌, IfOk};
+ghost use Rattle.hart_core.specs.Start.{IsRunnable};
+ghost use Rattle.image_writer.specs.declared.splitting.Split.TheVariants.{Plain};
 ghost use Rattle.image_writer.specs.Split.{split_of};
-ghost use Rattle.image_writer.specs.declared.splitting.Split.TheVariants.{Parts};
-ghost use Rattle.rewriter.specs.Admission.{first_difference, admission_of, parts_by, plain_by, Admitted, IsRefusal};
+ghost use Rattle.serial_run.specs.Sound.{HaveBytes};
+ghost use Rattle.rewriter.specs.Admission.{first_difference, not_made, IsAdmission, HasOriginal};
 
-use crate::rewriting::{RewriteErr, image_from, read};
+use crate::rewriting::{RewriteErr, division_of, image_with, read};
 use elf_image::Bytes;
 use image_writer::{Code, Entries, Image, Split, split_image};
+use loop_division::Division;
+use loop_division::laws::entries_are_in_order;
 use std::alloc::Global;
 
 /// Why a file is not admitted.
@@ -17,7 +17,7 @@ use std::alloc::Global;
 pub enum AdmitErr {
     /// It is marked as an image, but not whole.
     BadMark,
-    /// It holds no executable, or its original part does not; never for want of memory.
+    /// It holds no executable, or its original part has no image; never for want of memory.
     Original(RewriteErr),
     /// It is not the image of its original part: the first byte that differs, or the shorter length
     /// where one is the beginning of the other.
@@ -43,40 +43,58 @@ fn difference(made: &[u8], given: &[u8]) -> Option<usize>
     }
 }
 
-// Admits the parts of a file, where it is the image of its original part.
-fn admit_parts(
-    alloc: Global,
-    bytes: &[u8],
-    original: Bytes,
-    entries: Entries,
-    code: Code,
-) -> Result<Image, AdmitErr>
-    ensures admitted { IfOk result (λ image. parts_by bytes.now original entries code (reading_of original)
-        ≡ Admitted image) }
-    ensures loadable { IfOk result (λ image. IsLoadable image.elf) }
-    ensures refused { IfErr result (IsRefusal (parts_by bytes.now original entries code (reading_of original))) }
+// Why a file is not admitted whose executable is not rewritten.
+fn refusal(why: RewriteErr) -> AdmitErr
+    ensures { result ≡ not_made why }
 {
-    let elf = match read(alloc, original.as_slice()) {
+    match why {
+        RewriteErr::OutOfMemory => AdmitErr::OutOfMemory,
+        e => AdmitErr::Original(e),
+    }
+}
+
+// Admits a marked file with this original part, where it is the image of that.
+fn admit_parts(alloc: Global, bytes: &[u8], original: Bytes) -> Result<Image, AdmitErr>
+    requires { HasOriginal bytes.now original }
+    ensures admission { IsAdmission bytes.now result }
+    ensures runnable { IfOk result IsRunnable }
+    ensures bytes { IfOk result (λ image. HaveBytes image.elf.segments) }
+{
+    entries_are_in_order();
+    let original = original.as_slice();
+    let elf = match read(alloc, original) {
         Ok(elf) => elf,
-        Err(RewriteErr::OutOfMemory) => return Err(AdmitErr::OutOfMemory),
-        Err(e) => return Err(AdmitErr::Original(e)),
+        Err(e) => return Err(refusal(e)),
     };
-    let Ok(made) = image_from(alloc, original.as_slice(), &elf) else {
-        return Err(AdmitErr::OutOfMemory);
+    let division = match division_of(alloc, &elf) {
+        Ok(division) => division,
+        Err(e) => return Err(refusal(e)),
     };
-    match difference(made.bytes.as_slice(), bytes) {
+    let made = match image_with(alloc, original, &division) {
+        Ok(made) => made,
+        Err(e) => return Err(refusal(e)),
+    };
+    match difference(made.as_slice(), bytes) {
         Some(offset) => Err(AdmitErr::Altered {
             offset: offset as u64,
         }),
-        None => Ok(Image { elf, entries, code }),
+        None => {
+            let Division { entries, code } = division;
+            Ok(Image {
+                elf,
+                entries: Entries::new(entries),
+                code: Code::new(code),
+            })
+        }
     }
 }
 
 // Admits a file without a mark.
 fn admit_plain(alloc: Global, bytes: &[u8]) -> Result<Image, AdmitErr>
-    ensures admitted { IfOk result (λ image. plain_by (reading_of bytes.now) ≡ Admitted image) }
-    ensures loadable { IfOk result (λ image. IsLoadable image.elf) }
-    ensures refused { IfErr result (IsRefusal (plain_by (reading_of bytes.now))) }
+    requires { split_of bytes.now ≡ Plain }
+    ensures admission { IsAdmission bytes.now result }
+    ensures runnable { IfOk result IsRunnable }
+    ensures bytes { IfOk result (λ image. HaveBytes image.elf.segments) }
 {
     match read(alloc, bytes) {
         Ok(elf) => Ok(Image {
@@ -84,36 +102,21 @@ fn admit_plain(alloc: Global, bytes: &[u8]) -> Result<Image, AdmitErr>
             entries: Entries::new(Vec::new(alloc)),
             code: Code::new(Vec::new(alloc)),
         }),
-        Err(RewriteErr::OutOfMemory) => Err(AdmitErr::OutOfMemory),
-        Err(e) => Err(AdmitErr::Original(e)),
+        Err(e) => Err(refusal(e)),
     }
 }
 
 /// Admits a file to be run: an executable without a mark, as an image without entries, or an image
-/// that is exactly that of its original part.
+/// that is exactly that of its original part. An image that is admitted can be run.
 pub fn admit(alloc: Global, bytes: &[u8]) -> Result<Image, AdmitErr>
-    ensures admitted { IfOk result (λ image. admission_of bytes.now ≡ Admitted image) }
-    ensures loadable { IfOk result (λ image. IsLoadable image.elf) }
-    ensures refused { IfErr result (IsRefusal (admission_of bytes.now)) }
-
-    // A marked file that is admitted is the image of its original part.
-    ensures image { IfOk result (λ image. (original : List ℕ) (entries : List Entry) (code : List ℕ)
-        → split_of bytes.now ≡ Parts original entries code
-        → (rewritten_of original image.elf).bytes ≡ bytes.now) }
+    ensures admission { IsAdmission bytes.now result }
+    ensures runnable { IfOk result IsRunnable }
+    ensures bytes { IfOk result (λ image. HaveBytes image.elf.segments) }
 {
     match split_image(alloc, bytes) {
         Ok(Split::Plain) => admit_plain(alloc, bytes),
         Ok(Split::BadMark) => Err(AdmitErr::BadMark),
-        Ok(
-            Split::Parts {
-                original,
-                entries,
-                code,
-            },
-        ) => match admit_parts(alloc, bytes, original, entries, code) {
-            Ok(image) => Ok(image),
-            Err(e) => Err(e),
-        },
+        Ok(Split::Parts { original, .. }) => admit_parts(alloc, bytes, original),
         Err(_) => Err(AdmitErr::OutOfMemory),
     }
 }

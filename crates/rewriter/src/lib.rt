@@ -1,7 +1,8 @@
-// Rewriting an executable into an image, and the admission of images that are so made.
+//! Rewriting an executable into an image, and the admission of images that are so made.
 #![tactic(auto)]
 
 mod admission;
+pub mod laws;
 mod rewriting;
 #[cfg(test)]
 mod tests;

@@ -80,3 +80,34 @@ fn long_files_are_rewritten_and_admitted(rt: HostRuntime) -> Result<(), Fail> {
     assert!(rt; image.elf.entry == 0x10078 && image.entries.as_slice().is_empty());
     Ok(())
 }
+
+// The same with a loop of two words before the exit: `addi a0,a0,1` and `bne a0,a1,-4`.
+const LOOPING: [u8; 136] = [
+    0x7F, 0x45, 0x4C, 0x46, 2, 1, 1, 0, 0, 0, 0, 0, 0, 0, 0, 0, // e_ident
+    2, 0, 243, 0, 1, 0, 0, 0, 0x78, 0, 1, 0, 0, 0, 0, 0, // type, machine, version, entry
+    64, 0, 0, 0, 0, 0, 0, 0, 0, 0, 0, 0, 0, 0, 0, 0, // phoff, shoff
+    0, 0, 0, 0, 64, 0, 56, 0, 1, 0, 0, 0, 0, 0, 0, 0, // flags, sizes and numbers
+    1, 0, 0, 0, 5, 0, 0, 0, 0, 0, 0, 0, 0, 0, 0, 0, // type, flags, offset
+    0, 0, 1, 0, 0, 0, 0, 0, 0, 0, 1, 0, 0, 0, 0, 0, // vaddr, paddr
+    136, 0, 0, 0, 0, 0, 0, 0, 136, 0, 0, 0, 0, 0, 0, 0, // filesz, memsz
+    0, 16, 0, 0, 0, 0, 0, 0, 0x13, 0x05, 0x15, 0, 0xE3, 0x1E, 0xB5, 0xFE, // align, words
+    0x93, 0x08, 0xD0, 0x05, 0x73, 0, 0, 0, // words
+];
+
+#[test]
+fn a_loop_gets_an_entry_and_a_stub(rt: HostRuntime) -> Result<(), Fail> {
+    let made = rewrite(rt.alloc(), &LOOPING)?;
+    assert!(rt; made.entries == 1 && made.words == 88);
+    assert!(rt; made.bytes.as_slice().len() == 136 + 112 + 48 + 16 + 352);
+    let image = admit(rt.alloc(), made.bytes.as_slice())?;
+    let entry = image.entries.as_slice().first().ok_or("no entry")?;
+    assert!(rt; entry.header == 0x10078 && entry.stub == 0x6000_0000);
+    assert!(rt; image.code.as_slice().len() == 88);
+    let mut bytes = made.bytes.into_vec();
+    if let Some(byte) = bytes.get_mut(312) {
+        *byte = byte.wrapping_add(1);
+    }
+    let altered = Some(AdmitErr::Altered { offset: 312 });
+    assert!(rt; admit(rt.alloc(), bytes.as_slice()).err() == altered);
+    Ok(())
+}

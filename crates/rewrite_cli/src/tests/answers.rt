@@ -1,15 +1,24 @@
-use crate::counts::{Counts, NO_COUNTS};
+use crate::counts::Counts;
 use crate::report::report_text;
 use crate::status::{Reason, Status};
 use rv64_decode::{Fault, MemFault};
 use std::alloc::{AllocError, Global};
 use std::process::Abort;
 
+// What is counted.
+#[derive(Clone, Copy)]
+enum Given {
+    Steps(u64),
+    Image { entries: u32, words: u32 },
+    Sample { bytes: u64 },
+    Nothing,
+}
+
 // An answer, its counts, its report and its exit status.
 #[derive(Clone, Copy)]
 struct Answer {
     status: Status,
-    counts: Counts,
+    counts: Given,
     text: &'static str,
     number: u8,
 }
@@ -17,19 +26,19 @@ struct Answer {
 static ANSWERS: [Answer; 7] = [
     Answer {
         status: Status::Spent,
-        counts: Counts::Steps(7),
+        counts: Given::Steps(7),
         text: "spent\n",
         number: 121,
     },
     Answer {
         status: Status::OutOfMemory,
-        counts: NO_COUNTS,
+        counts: Given::Nothing,
         text: "out-of-memory\n",
         number: 128,
     },
     Answer {
         status: Status::WriteFault,
-        counts: NO_COUNTS,
+        counts: Given::Nothing,
         text: "",
         number: 127,
     },
@@ -39,20 +48,20 @@ static ANSWERS: [Answer; 7] = [
             pc: 0xFEDC_BA98_7654_3210,
             addr: u64::MAX,
         },
-        counts: Counts::Steps(u64::MAX),
+        counts: Given::Steps(u64::MAX),
         text: "hart 0 instructions 18446744073709551615\nsteps 18446744073709551615\n\
             fault load-denied pc 0xfedcba9876543210 addr 0xffffffffffffffff\n",
         number: 120,
     },
     Answer {
         status: Status::Refused(Reason::LoadTooLong { limit: 67_108_864 }),
-        counts: NO_COUNTS,
+        counts: Given::Nothing,
         text: "refused load-too-long 67108864\n",
         number: 124,
     },
     Answer {
         status: Status::Done,
-        counts: Counts::Image {
+        counts: Given::Image {
             entries: u32::MAX,
             words: 717,
         },
@@ -61,7 +70,7 @@ static ANSWERS: [Answer; 7] = [
     },
     Answer {
         status: Status::Done,
-        counts: Counts::Sample { bytes: u64::MAX },
+        counts: Given::Sample { bytes: u64::MAX },
         text: "made 18446744073709551615\n",
         number: 0,
     },
@@ -79,9 +88,19 @@ fn check_text<R: Abort>(
     Ok(())
 }
 
+fn counts_of(alloc: Global, given: Given) -> Result<Counts, AllocError> {
+    match given {
+        Given::Steps(steps) => Counts::of_steps(alloc, steps),
+        Given::Image { entries, words } => Ok(Counts::Image { entries, words }),
+        Given::Sample { bytes } => Ok(Counts::Sample { bytes }),
+        Given::Nothing => Ok(Counts::Nothing),
+    }
+}
+
 fn check_answers<R: Abort>(rt: &R, alloc: Global) -> Result<(), AllocError> {
     for answer in &ANSWERS {
-        check_text(rt, alloc, &answer.status, &answer.counts, answer.text)?;
+        let counts = counts_of(alloc, answer.counts)?;
+        check_text(rt, alloc, &answer.status, &counts, answer.text)?;
         assert!(rt; answer.status.exit_number() == answer.number);
     }
     Ok(())
@@ -92,7 +111,7 @@ fn answers_have_their_lines_and_numbers(rt: HostRuntime) -> Result<(), AllocErro
     check_answers(&rt, rt.alloc())
 }
 
-static REFUSALS: [(Reason, &str); 23] = [
+static REFUSALS: [(Reason, &str); 24] = [
     (
         Reason::TooLong { length: u64::MAX },
         "too-long 18446744073709551615",
@@ -134,6 +153,10 @@ static REFUSALS: [(Reason, &str); 23] = [
         "entry-outside 65536",
     ),
     (Reason::TooManyLoops { count: 1_025 }, "too-many-loops 1025"),
+    (
+        Reason::CodeTooLong { words: 4_194_305 },
+        "code-too-long 4194305",
+    ),
     (Reason::BadMark, "bad-mark"),
     (Reason::Altered { offset: 584 }, "altered 584"),
     (
@@ -145,7 +168,13 @@ static REFUSALS: [(Reason, &str); 23] = [
 fn check_refusals<R: Abort>(rt: &R, alloc: Global) -> Result<(), AllocError> {
     for (why, text) in &REFUSALS {
         let line = format!(in alloc; "refused {text}\n")?;
-        check_text(rt, alloc, &Status::Refused(*why), &NO_COUNTS, line.as_str())?;
+        check_text(
+            rt,
+            alloc,
+            &Status::Refused(*why),
+            &Counts::Nothing,
+            line.as_str(),
+        )?;
     }
     Ok(())
 }

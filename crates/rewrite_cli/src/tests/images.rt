@@ -51,12 +51,15 @@ fn rewritten_file_runs_as_its_original(rt: HostRuntime) -> Result<(), AllocError
 }
 
 static TURNS_OF_A_MARKED_FILE: [Case; 2] = [
-    REWRITE,
+    Case {
+        report: "rewritten entries 2 words 717\n",
+        ..REWRITE
+    },
     Case {
         words: "rewrite new other",
         answer: Some(Status::Refused(Reason::Marked { index: 2 })),
         number: 124,
-        report: "rewritten entries 0 words 0\nrefused marked 2\n",
+        report: "rewritten entries 2 words 717\nrefused marked 2\n",
         ..REWRITE
     },
 ];
@@ -67,6 +70,60 @@ fn marked_file_is_not_rewritten(rt: HostRuntime) -> Result<(), AllocError> {
     let file = arrays(rt.alloc(), 24, 0x0000_04b7, 0x0084_849b)?;
     give_in_turn(&rt, rt.alloc(), file.as_slice(), &TURNS_OF_A_MARKED_FILE)?;
     Ok(())
+}
+
+// Counts up to 40 in one loop, and ends with that number.
+static COUNT: [u32; 5] = [
+    0x0280_0593, // addi a1,x0,40
+    0x0015_0513, // addi a0,a0,1
+    0xfeb5_1ee3, // bne a0,a1,-4
+    0x05d0_0893, // addi a7,x0,93
+    0x0000_0073, // ecall
+];
+
+const DIVIDED: Case = Case {
+    report: "rewritten entries 1 words 88\n",
+    ..REWRITE
+};
+
+// The image is run with just enough events, and with one less.
+static TURNS_OF_A_LOOP: [Case; 3] = [
+    DIVIDED,
+    Case {
+        words: "run new 1 420",
+        answer: Some(Status::Exited(40)),
+        number: 40,
+        report: "rewritten entries 1 words 88\nloop 0x0001007c arrivals 1 divided 1 turns 39\n\
+            hart 0 instructions 420\nsteps 420\nexit 40\n",
+        ..DIVIDED
+    },
+    Case {
+        words: "run new 1 419",
+        answer: Some(Status::Spent),
+        number: 121,
+        report: "rewritten entries 1 words 88\nloop 0x0001007c arrivals 1 divided 1 turns 39\n\
+            hart 0 instructions 420\nsteps 420\nexit 40\nspent\n",
+        ..DIVIDED
+    },
+];
+
+// The headers and the words of the file have 144 bytes, the copied headers 112, and the record, an entry and 88 words
+// 416.
+fn check_divided<R: Threads + Sync + Abort>(
+    rt: &R,
+    alloc: Global,
+    file: &[u8],
+) -> Result<(), AllocError> {
+    let at = give_in_turn(rt, alloc, file, &TURNS_OF_A_LOOP)?;
+    check_file(rt, &at.store, "new", 672, b"");
+    Ok(())
+}
+
+#[test]
+fn divided_loop_runs_as_its_original(rt: HostRuntime) -> Result<(), AllocError> {
+    let file = program(rt.alloc(), &COUNT, "")?;
+    check_length(&rt, file.as_slice(), 140);
+    check_divided(&rt, rt.alloc(), file.as_slice())
 }
 
 static REWRITE_ONTO_ITSELF: [Case; 1] = [Case {

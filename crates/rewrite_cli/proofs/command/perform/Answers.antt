@@ -1,6 +1,6 @@
 use Rattle.std.proofs.Common.{refl, None}
 use Rattle.rewrite_cli.specs.declared.status.Status.TheVariants.{Usage}
-use Rattle.rewrite_cli.specs.Answer.{stream}
+use Rattle.rewrite_cli.specs.Outside.{stream}
 use Rattle.rewrite_cli.proofs.Done.{plain_done}
 use Rattle.rewrite_cli.proofs.command.perform.Goals as goal
 

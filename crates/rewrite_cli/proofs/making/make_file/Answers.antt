@@ -1,6 +1,6 @@
 use Rattle.std.proofs.Common.{ap, ◌∙◌}
 use Rattle.rewrite_cli.specs.Texts.{report_of}
-use Rattle.rewrite_cli.specs.declared.counts.Counts.{Counts}
+use Rattle.rewrite_cli.specs.Counts.{Tally}
 use Rattle.rewrite_cli.proofs.Commands.{made_done, unmade_done}
 use Rattle.rewrite_cli.proofs.making.make_file.Goals as goal
 
@@ -8,7 +8,7 @@ pub returns-in-Ok-clause-done : goal.returns-in-Ok-clause-done
 returns-in-Ok-clause-done g c = λ input output.
     made_done c.args.kind c.args.size c.args.new.now c.as_slice-bytes.result.now _ _ input output
     c.save_and_reply.result.status _ c.save_and_reply.ensures.kind
-    (c.save_and_reply.ensures.text ∙ ap (λ (counts : Counts). report_of counts c.save_and_reply.result.status)
+    (c.save_and_reply.ensures.text ∙ ap (λ (counts : Tally). report_of counts c.save_and_reply.result.status)
     c.counts_from-counts.ensures)
     c.in-Ok.ensures.made.0 (c.as_slice-bytes.ensures.value ∙ c.in-Ok.ensures.made.1) c.save_and_reply.ensures.saved
     c.save_and_reply.ensures.stays c.save_and_reply.ensures.others c.save_and_reply.ensures.store_fault

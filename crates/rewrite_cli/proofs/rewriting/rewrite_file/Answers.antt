@@ -1,7 +1,7 @@
 use Rattle.std.proofs.Common.{ap, ◌∙◌, Some}
 use Rattle.rewrite_cli.specs.Words.{Rewrite}
 use Rattle.rewrite_cli.specs.Texts.{report_of}
-use Rattle.rewrite_cli.specs.declared.counts.Counts.{Counts}
+use Rattle.rewrite_cli.specs.Counts.{Tally}
 use Rattle.rewrite_cli.proofs.Done.{refused_done}
 use Rattle.rewrite_cli.proofs.Commands.{rewritten_done, lacks_first}
 use Rattle.rewrite_cli.proofs.rewriting.rewrite_file.Goals as goal
@@ -16,7 +16,7 @@ returns-in-Ok-clause-done g c = λ input output.
       failed_saves = g.S.Store.failed_saves c.load_rewritten.new.store;
     }) _ input output
     c.save_and_reply.result.status _ c.in-Ok.made c.save_and_reply.ensures.kind
-    (c.save_and_reply.ensures.text ∙ ap (λ (counts : Counts). report_of counts c.save_and_reply.result.status)
+    (c.save_and_reply.ensures.text ∙ ap (λ (counts : Tally). report_of counts c.save_and_reply.result.status)
     c.counts_from-counts.ensures)
     c.in-Ok.ensures.same c.in-Ok.ensures.never_falls c.in-Ok.ensures.no_save c.as_slice-image.ensures
     c.in-Ok.ensures.made
