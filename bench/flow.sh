@@ -1,11 +1,11 @@
 #!/bin/bash
-# Measures how long `list` takes for executables with 2^14, 2^16 and 2^18 reached words: blocks of eight
+# Measures how long `list` and `rewrite` take for executables with 2^14, 2^16 and 2^18 reached words: blocks of eight
 # words, each a loop with a branch, a call and a pair of auipc and jalr. Then for three files that are hard
 # to list: 255 loops one in another in each of 1,023 blocks ('nested'), a chain laid out backwards inside 192
 # loops in each of 1,023 blocks ('backwards'), and a header with 2^16 closed edges, from the leaves of a tree
 # ('tree'). Then for a file of 1,000 loops of 256 words that are chosen, each with 32 stores to bytes of their own
-# ('verdicts'): each two of these are a pair that is tested. Lists each some times with the built program, and
-# prints the least user time of each and the most memory.
+# ('verdicts'): each two of these are a pair that is tested. Lists and rewrites each some times with the built
+# program, and prints the least user times and the most memory.
 # Usage: bench/flow.sh [RUNS], 3 runs by default.
 # Wants python3; examples/build.sh builds the program where it is not built yet.
 set -euo pipefail
@@ -87,24 +87,35 @@ for name, words in files.items():
         file.write(header + segment + code)
 PYTHON
 
-# The least user time of so many lists, and the most memory of any.
+# The least user time of so many lists, and of so many rewritings, and the most memory of any. A file of which too many
+# words would be added is refused by `rewrite` once they are counted.
 python3 - "$program" "$folder" "$runs" <<'PYTHON'
 import os
 import subprocess
 import sys
 
 program, folder, runs = sys.argv[1], sys.argv[2], int(sys.argv[3])
-for name in ["14", "16", "18", "nested", "backwards", "tree", "verdicts"]:
+REFUSED = 124
+
+
+def measure(words, allowed):
+    """The least user time in seconds and the most memory in MB of the runs with these words."""
     seconds, memory = [], []
     for _ in range(runs):
         with open(f"{folder}/report", "wb") as report:
-            child = subprocess.Popen([program, "list", f"{folder}/{name}"], stdout=subprocess.DEVNULL, stderr=report)
+            child = subprocess.Popen([program, *words], stdout=subprocess.DEVNULL, stderr=report)
             _, status, usage = os.wait4(child.pid, 0)
-        if status != 0:
+        if os.waitstatus_to_exitcode(status) not in allowed:
             sys.stderr.write(open(f"{folder}/report").read())
             sys.exit(1)
         seconds.append(usage.ru_utime)
         memory.append(usage.ru_maxrss)
+    return min(seconds), max(memory) // 1024
+
+
+for name in ["14", "16", "18", "nested", "backwards", "tree", "verdicts"]:
+    listed = measure(["list", f"{folder}/{name}"], [0])
+    written = measure(["rewrite", f"{folder}/{name}", f"{folder}/image"], [0, REFUSED])
     what = f"2^{name} words" if name.isdigit() else name
-    print(f"{what}: {min(seconds):.2f} s of user time, {max(memory) // 1024} MB")
+    print(f"{what}: list {listed[0]:.2f} s of user time, {listed[1]} MB; rewrite {written[0]:.2f} s, {written[1]} MB")
 PYTHON
