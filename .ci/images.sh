@@ -772,6 +772,7 @@ try_image() {
     must 'fuel that is short: the status' [ "$(cat short.status)" = 121 ]
     must 'fuel that is short: a memory was saved' [ ! -e short.dump ]
     must 'fuel that is short: the output' cmp -s image.out short.out
+    cp image.report report
     case_is "$2"
 }
 
